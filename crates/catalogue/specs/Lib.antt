@@ -1,0 +1,3 @@
+pub mod Nodes
+pub mod Ways
+pub mod Model

@@ -1,0 +1,10 @@
+pub mod Renders
+pub mod Walks
+pub mod Spells
+pub mod Orders
+pub mod Parts
+pub mod Limits
+pub mod Totals
+pub mod Below
+pub mod Normals
+pub mod Lasts

@@ -1,0 +1,7 @@
+use borrow.Author.Needs.{needs}
+use Rattle.paths.specs.Model.{names}
+use Rattle.paths.proofs.path.Path.root.Needs as need
+
+pub returns : need.returns
+unfolding names
+returns c = search needs

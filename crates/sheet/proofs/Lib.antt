@@ -1,0 +1,4 @@
+pub mod Found
+pub mod Settings
+pub mod Turns
+pub mod Unlinked

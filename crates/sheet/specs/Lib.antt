@@ -1,0 +1,4 @@
+pub mod Classes
+pub mod Rows
+pub mod Edits
+pub mod Model

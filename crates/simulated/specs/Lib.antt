@@ -1,0 +1,5 @@
+pub mod Paths
+pub mod Board
+pub mod Roll
+pub mod Filters
+pub mod Model
