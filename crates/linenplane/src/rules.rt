@@ -1,5 +1,6 @@
 // The filterer of a scenario: names that are refused, and names that are answered with a fault number.
 use crate::wrong::Wrong;
+use outside::AllowAll;
 use outside::FilterFault;
 use outside::Filterer;
 use paths::Name;
@@ -18,6 +19,8 @@ pub struct Balk {
 // A name has one answer: that of the line that came last.
 #[derive(Drop)]
 pub struct Rules {
+    // No line named anything yet.
+    all: bool,
     denied: NameFilter,
     balks: Vec<Balk>,
 }
@@ -26,10 +29,11 @@ impl Rules {
     // Everything is allowed.
     pub fn new(heap: Global) -> Result<Rules, AllocError> {
         let denied = NameFilter::new(heap)?;
-        Ok(Rules { denied, balks: Vec::new(heap) })
+        Ok(Rules { all: true, denied, balks: Vec::new(heap) })
     }
 
     pub fn deny(&mut self, name: &Name) -> Result<(), Wrong> {
+        self.all = false;
         match self.denied.refuse(name) {
             Ok(()) => {
                 self.forget(name);
@@ -40,6 +44,7 @@ impl Rules {
     }
 
     pub fn balk(&mut self, name: &Name, number: u16) -> Result<(), Wrong> {
+        self.all = false;
         self.forget(name);
         if self.balks.len() >= 16 {
             return Err(Wrong::FullFilter);
@@ -71,6 +76,9 @@ impl Rules {
     }
 
     pub fn verdict(&self, path: &Path) -> Result<bool, FilterFault> {
+        if self.all {
+            return ().check_dir(path);
+        }
         if let Some(name) = path.name() {
             if let Some(number) = self.balked(&name) {
                 return Err(FilterFault(number));

@@ -16,5 +16,6 @@ pub use cause::FilterFault;
 pub use cause::ScanCause;
 pub use entry::EntryKind;
 pub use entry::Item;
+pub use filterer::AllowAll;
 pub use filterer::Filterer;
 pub use scanner::Scanner;

@@ -46,6 +46,5 @@ pub pushed-seen : {X Y : Type 0} (f : X → Y) (n : ℕ) (x : X) (xs ys : List X
     → r ≡ fitted n xs (xs ++ x ∷ []) .0 → ys ≡ fitted n xs (xs ++ x ∷ []) .1
     → (r ≡ fitted n (map f xs) (map f xs ++ f x ∷ []) .0) × (map f ys ≡ fitted n (map f xs) (map f xs ++ f x ∷ []) .1)
 pushed-seen f n x xs ys r e i =
-    let w = fitted-map f n xs (xs ++ x ∷ []) in
-    let p = map-push f xs x in
-    (e ∙ (w .0 ∙ ap (λ zs. fitted n (map f xs) zs .0) p), ap (map f) i ∙ (w .1 ∙ ap (λ zs. fitted n (map f xs) zs .1) p))
+    let w = fitted-map f n xs (xs ++ x ∷ []) (map-push f xs x) in
+    (e ∙ w .0, ap (map f) i ∙ w .1)

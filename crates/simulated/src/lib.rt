@@ -1,13 +1,10 @@
-// The backends and filterers that we ship: a slot board, a roll of prepared answers, and two filters.
-pub mod allow_all;
+// The backends and filterers that we ship: a slot board, a roll of prepared answers, and a filter of names.
 pub mod board;
 pub mod name_filter;
 mod path_set;
 pub mod prepared;
 pub mod roll;
 
-pub use allow_all::AllowAll;
-pub use allow_all::AllowAllFilterer;
 pub use board::Board;
 pub use board::error::BoardError;
 pub use board::error::BoardErrorFromAlloc;
