@@ -14,7 +14,11 @@ use paths::Path;
 fn lost(left: u8) -> ScanCause
     ensures { λ r. ⌜ r ≡ lostBy left ⌝ }
 {
-    if left == 0 { ScanCause::Number(40) } else { ScanCause::NotFound }
+    if left == 0 {
+        ScanCause::Number(40)
+    } else {
+        ScanCause::NotFound
+    }
 }
 
 impl Catalogue {

@@ -5,6 +5,7 @@ pub mod node;
 pub mod scanning;
 pub mod tree;
 mod way;
+
 pub use node::Node;
 pub use scanning::CatalogueScanner;
 pub use tree::Catalogue;

@@ -23,18 +23,27 @@ impl Node {
     pub fn directory() -> Node
         ensures { λ r. ⌜ node r ≡ directory ⌝ }
     {
-        Node { kind: Kind::Directory, target: Path::root() }
+        Node {
+            kind: Kind::Directory,
+            target: Path::root(),
+        }
     }
 
     pub fn file() -> Node
         ensures { λ r. ⌜ node r ≡ file ⌝ }
     {
-        Node { kind: Kind::File, target: Path::root() }
+        Node {
+            kind: Kind::File,
+            target: Path::root(),
+        }
     }
 
     pub fn link(target: &Path) -> Node
         ensures { λ r. ⌜ node r ≡ link (names (now (target .entry))) ⌝ }
     {
-        Node { kind: Kind::Link, target: *target }
+        Node {
+            kind: Kind::Link,
+            target: *target,
+        }
     }
 }

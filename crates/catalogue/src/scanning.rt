@@ -88,7 +88,12 @@ pub impl Scanner for Catalogue as CatalogueScanner {
 
     ghost listed = { λ c p. listedIn (nodes c) p };
 
-    fn classify(&self, path: &Path, follow: bool, canonical: &mut Path) -> Result<EntryKind, ScanCause> {
+    fn classify(
+        &self,
+        path: &Path,
+        follow: bool,
+        canonical: &mut Path,
+    ) -> Result<EntryKind, ScanCause> {
         let mut at = *path;
         match self.arrive(false, &mut at)? {
             Kind::Directory => {

@@ -21,7 +21,10 @@ pub struct Args<'a> {
 
 impl<'a> Args<'a> {
     pub fn new(line: &'a [u8]) -> Args<'a> {
-        Args { words: Words::new(line), last: b"the line's start" }
+        Args {
+            words: Words::new(line),
+            last: b"the line's start",
+        }
     }
 
     // The next word, if there is one.

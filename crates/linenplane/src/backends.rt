@@ -12,7 +12,11 @@ use simulated::BoardError;
 use simulated::Prepared;
 use simulated::Roll;
 
-pub fn backend_command(world: &mut World, command: BackendCommand, args: &mut Args<'_>) -> Result<(), Wrong> {
+pub fn backend_command(
+    world: &mut World,
+    command: BackendCommand,
+    args: &mut Args<'_>,
+) -> Result<(), Wrong> {
     match command {
         BackendCommand::Board => board(world, args),
         BackendCommand::Roll => roll(world, args),
@@ -65,10 +69,12 @@ fn answer(world: &mut World, args: &mut Args<'_>) -> Result<(), Wrong> {
 fn prepared(world: &World, args: &mut Args<'_>) -> Result<Prepared, Wrong> {
     let cause = read_backend_cause(args.word()?)?;
     let Some(word) = args.next()? else {
-        return Ok(match cause {
-            None => Prepared::done(),
-            Some(cause) => Prepared::failed(cause),
-        });
+        return Ok(
+            match cause {
+                None => Prepared::done(),
+                Some(cause) => Prepared::failed(cause),
+            },
+        );
     };
     let Some(cause) = cause else {
         return Err(Wrong::DonePath);

@@ -88,7 +88,13 @@ pub fn write_numbered(out: &mut String, word: &str, n: u64) -> Result<(), AllocE
 }
 
 // The line of a request: its verb, its path, the answer, and the path that the answer carried.
-pub fn write_request(out: &mut String, verb: &str, path: &Path, answer: Result<(), BackendCause>, carried: &Carried) -> Result<(), AllocError> {
+pub fn write_request(
+    out: &mut String,
+    verb: &str,
+    path: &Path,
+    answer: Result<(), BackendCause>,
+    carried: &Carried,
+) -> Result<(), AllocError> {
     out.push_str(verb)?;
     out.push(' ')?;
     encode(out, path.text())?;
@@ -105,7 +111,11 @@ pub fn write_request(out: &mut String, verb: &str, path: &Path, answer: Result<(
 }
 
 // The line of a classification.
-pub fn write_entry(out: &mut String, entry: Result<EntryKind, ScanCause>, canonical: &Path) -> Result<(), AllocError> {
+pub fn write_entry(
+    out: &mut String,
+    entry: Result<EntryKind, ScanCause>,
+    canonical: &Path,
+) -> Result<(), AllocError> {
     match entry {
         Ok(EntryKind::Directory) => {
             out.push_str("directory ")?;

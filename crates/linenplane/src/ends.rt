@@ -39,7 +39,11 @@ impl AnyBackend {
         }
     }
 
-    pub fn watch(&mut self, path: &Path, carried: &mut Carried) -> Result<Result<(), BackendCause>, Wrong> {
+    pub fn watch(
+        &mut self,
+        path: &Path,
+        carried: &mut Carried,
+    ) -> Result<Result<(), BackendCause>, Wrong> {
         match self {
             AnyBackend::None => Err(Wrong::NoBackend),
             AnyBackend::Board(board) => Ok(board.watch(path, carried)),
@@ -47,7 +51,11 @@ impl AnyBackend {
         }
     }
 
-    pub fn unwatch(&mut self, path: &Path, carried: &mut Carried) -> Result<Result<(), BackendCause>, Wrong> {
+    pub fn unwatch(
+        &mut self,
+        path: &Path,
+        carried: &mut Carried,
+    ) -> Result<Result<(), BackendCause>, Wrong> {
         match self {
             AnyBackend::None => Err(Wrong::NoBackend),
             AnyBackend::Board(board) => Ok(board.unwatch(path, carried)),
@@ -65,7 +73,12 @@ impl AnyBackend {
 }
 
 impl AnyScanner {
-    pub fn classify(&self, path: &Path, follow: bool, canonical: &mut Path) -> Result<EntryKind, ScanCause> {
+    pub fn classify(
+        &self,
+        path: &Path,
+        follow: bool,
+        canonical: &mut Path,
+    ) -> Result<EntryKind, ScanCause> {
         match self {
             AnyScanner::Catalogue(catalogue) => catalogue.classify(path, follow, canonical),
             AnyScanner::Sheet(sheet) => sheet.classify(path, follow, canonical),

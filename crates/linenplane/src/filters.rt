@@ -5,7 +5,11 @@ use crate::rules::Rules;
 use crate::world::World;
 use crate::wrong::Wrong;
 
-pub fn filter_command(world: &mut World, command: FilterCommand, args: &mut Args<'_>) -> Result<(), Wrong> {
+pub fn filter_command(
+    world: &mut World,
+    command: FilterCommand,
+    args: &mut Args<'_>,
+) -> Result<(), Wrong> {
     match command {
         FilterCommand::Filter => filter(world, args),
         FilterCommand::Deny => deny(world, args),

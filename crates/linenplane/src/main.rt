@@ -11,6 +11,7 @@ mod scanners;
 mod session;
 mod world;
 mod wrong;
+
 use session::Session;
 use std::io;
 use std::io::BufRead;

@@ -22,7 +22,12 @@ use std::alloc::AllocError;
 // More items than any scanner of ours lists.
 const MOST_ITEMS: usize = 4096;
 
-pub fn answer(world: &mut World, question: Question, args: &mut Args<'_>, out: &mut String) -> Result<(), Wrong> {
+pub fn answer(
+    world: &mut World,
+    question: Question,
+    args: &mut Args<'_>,
+    out: &mut String,
+) -> Result<(), Wrong> {
     match question {
         Question::Look => look(world, args, out),
         Question::Items => items(world, args, out),

@@ -29,7 +29,11 @@ impl Rules {
     // Everything is allowed.
     pub fn new(heap: Global) -> Result<Rules, AllocError> {
         let denied = NameFilter::new(heap)?;
-        Ok(Rules { all: true, denied, balks: Vec::new(heap) })
+        Ok(Rules {
+            all: true,
+            denied,
+            balks: Vec::new(heap),
+        })
     }
 
     pub fn deny(&mut self, name: &Name) -> Result<(), Wrong> {
@@ -49,7 +53,10 @@ impl Rules {
         if self.balks.len() >= 16 {
             return Err(Wrong::FullFilter);
         }
-        match self.balks.push(Balk { name: *name, number }) {
+        match self.balks.push(Balk {
+            name: *name,
+            number,
+        }) {
             Ok(()) => Ok(()),
             Err(_) => Err(Wrong::NoMemory),
         }

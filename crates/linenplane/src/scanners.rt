@@ -17,7 +17,11 @@ use sheet::Sheet;
 // More items than a sheet has room for.
 const MOST_ITEMS: usize = 4096;
 
-pub fn scanner_command(world: &mut World, command: ScannerCommand, args: &mut Args<'_>) -> Result<(), Wrong> {
+pub fn scanner_command(
+    world: &mut World,
+    command: ScannerCommand,
+    args: &mut Args<'_>,
+) -> Result<(), Wrong> {
     match command {
         ScannerCommand::Catalogue => catalogue(world, args),
         ScannerCommand::Sheet => sheet(world, args),

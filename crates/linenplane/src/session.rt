@@ -12,8 +12,8 @@ use crate::questions::answer;
 use crate::scanners::scanner_command;
 use crate::world::World;
 use crate::wrong::Wrong;
-use crate::wrong::WrongFromAlloc;
 use crate::wrong::WrongDisplay;
+use crate::wrong::WrongFromAlloc;
 use scenario::is_blank;
 use scenario::is_word;
 use std::alloc::AllocError;
@@ -30,7 +30,10 @@ pub struct Session {
 impl Session {
     pub fn new(heap: Global) -> Result<Session, AllocError> {
         let world = World::new(heap)?;
-        Ok(Session { world, passing: false })
+        Ok(Session {
+            world,
+            passing: false,
+        })
     }
 
     // Does what a line says, and appends what it did.
@@ -73,7 +76,13 @@ impl Session {
     }
 
     // A question prints its line before its answer.
-    fn ask(&mut self, line: &[u8], question: Question, args: &mut Args<'_>, out: &mut String) -> Result<(), Wrong> {
+    fn ask(
+        &mut self,
+        line: &[u8],
+        question: Question,
+        args: &mut Args<'_>,
+        out: &mut String,
+    ) -> Result<(), Wrong> {
         let mut told = String::new(self.world.heap);
         answer(&mut self.world, question, args, &mut told)?;
         out.push_str("> ")?;

@@ -16,7 +16,10 @@ impl Carried {
     pub fn nothing() -> Carried
         ensures { λ r. ⌜ carries r ≡ None ⌝ }
     {
-        Carried { path: Path::root(), stands: false }
+        Carried {
+            path: Path::root(),
+            stands: false,
+        }
     }
 
     pub fn put(&mut self, path: &Path)

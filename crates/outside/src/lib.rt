@@ -5,6 +5,7 @@ pub mod cause;
 pub mod entry;
 pub mod filterer;
 pub mod scanner;
+
 pub use backend::Backend;
 pub use carried::Carried;
 pub use cause::BackendCause;

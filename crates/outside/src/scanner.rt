@@ -22,7 +22,12 @@ pub trait Scanner {
     law followed: { (s : Self) (p : Names) → classified s p true ≡ Ok symlink → ⊥ };
 
     // The canonical path of a directory is put into the place that the caller lends.
-    fn classify(&self, path: &Path, follow: bool, canonical: &mut Path) -> Result<EntryKind, ScanCause>
+    fn classify(
+        &self,
+        path: &Path,
+        follow: bool,
+        canonical: &mut Path,
+    ) -> Result<EntryKind, ScanCause>
         ensures value { λ r. ⌜ r ≡ kind (classified (now (self .entry)) (names (now (path .entry))) follow) ⌝ }
         ensures after { λ _. ⌜ names (now (canonical .exit)) ≡ canonicalOf (classified (now (self .entry)) (names (now (path .entry))) follow) (names (now (canonical .entry))) ⌝ };
 

@@ -24,31 +24,31 @@ part-short : (t cur n : Text) (ns : List Text) → parts cur t ≡ n ∷ ns → 
 part-short [] cur n ns e = let q : cur ≡ n = cc in let l = ap length q in omega arith
 part-short (b ∷ t) cur n ns e =
     elim (cases-bool (eqb b 47)) [
-      inl h ↦
-        let f = sym (cond-true (eqb b 47) (cur ∷ parts [] t) (parts (cur ++ b ∷ []) t) h) ∙ e in
-        let q : cur ≡ n = cc in
-        let l = ap length q in
-        omega arith
-    | inr h ↦
-        let f = sym (cond-false (eqb b 47) (cur ∷ parts [] t) (parts (cur ++ b ∷ []) t) h) ∙ e in
-        let i = part-short t (cur ++ b ∷ []) n ns f in
-        let l = length-append cur (b ∷ []) in
-        omega arith
+      | inl h ↦
+          let f = sym (cond-true (eqb b 47) (cur ∷ parts [] t) (parts (cur ++ b ∷ []) t) h) ∙ e in
+          let q : cur ≡ n = cc in
+          let l = ap length q in
+          omega arith
+      | inr h ↦
+          let f = sym (cond-false (eqb b 47) (cur ∷ parts [] t) (parts (cur ++ b ∷ []) t) h) ∙ e in
+          let i = part-short t (cur ++ b ∷ []) n ns f in
+          let l = length-append cur (b ∷ []) in
+          omega arith
     ]
 
 -- a part that begins at a place ends within the text
 part-within : (t : Text) (at : ℕ) (n : Text) (ns : List Text) → parts-from t at ≡ n ∷ ns → at + length n ≤ length t
 part-within t at n ns e =
     elim (cases-bool (leb at (length t))) [
-      inl h ↦
-        let f = sym (cond-true (leb at (length t)) (parts [] (drop at t)) [] h) ∙ e in
-        let i = part-short (drop at t) [] n ns f in
-        let l = length-drop at t in
-        let w = leb-true at (length t) h in
-        omega arith
-    | inr h ↦
-        let f = sym (cond-false (leb at (length t)) (parts [] (drop at t)) [] h) ∙ e in
-        absurd (let z : _≡_ {A = ℕ} 0 1 = cc in omega arith)
+      | inl h ↦
+          let f = sym (cond-true (leb at (length t)) (parts [] (drop at t)) [] h) ∙ e in
+          let i = part-short (drop at t) [] n ns f in
+          let l = length-drop at t in
+          let w = leb-true at (length t) h in
+          omega arith
+      | inr h ↦
+          let f = sym (cond-false (leb at (length t)) (parts [] (drop at t)) [] h) ∙ e in
+          absurd (let z : _≡_ {A = ℕ} 0 1 = cc in omega arith)
     ]
 
 -- the part that a cursor gives, the place that it moves on to, and what is left there

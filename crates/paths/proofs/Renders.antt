@@ -66,7 +66,7 @@ grown-padded size p n lt =
     let i : length (render p) + 1 + length n ≡ length (render p) + (1 + length n) = omega arith in
     let j : size - length (render p) - (1 + length n) ≡ size - length (render p ++ 47 ∷ n) = omega arith in
     let d : drop (length (render p) + 1 + length n) (padded size p) ≡ replicate (size - length (render (n ∷ p))) 0 =
-      ap (λ k. drop k (padded size p)) i ∙ (sym (drop-drop (1 + length n) (length (render p)) (padded size p)) ∙ (ap (drop (1 + length n)) (drop-at (render p) z (length (render p)) refl) ∙ (drop-replicate (1 + length n) (size - length (render p)) 0 ∙ ap (λ k. replicate {A = ℕ} k 0) j))) in
+    ap (λ k. drop k (padded size p)) i ∙ (sym (drop-drop (1 + length n) (length (render p)) (padded size p)) ∙ (ap (drop (1 + length n)) (drop-at (render p) z (length (render p)) refl) ∙ (drop-replicate (1 + length n) (size - length (render p)) 0 ∙ ap (λ k. replicate {A = ℕ} k 0) j))) in
     ap (λ x. x ++ (47 ∷ (n ++ drop (length (render p) + 1 + length n) (padded size p)))) t ∙ (ap (λ y. render p ++ (47 ∷ (n ++ y))) d ∙ sym (append-assoc (render p) (47 ∷ n) _))
 
 pub length-padded : (size : ℕ) (p : Names) → length (render p) ≤ size → length (padded size p) ≡ size

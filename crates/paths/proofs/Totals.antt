@@ -17,9 +17,6 @@ use Rattle.paths.specs.Laws.{Total-order, Above-first}
 use Rattle.paths.proofs.Spells.{outward-back, outward-append}
 use Rattle.paths.proofs.Walks.{same-path-true}
 
-
-
-
 then-equal : (o p : Ordering) → thenBy o p ≡ Equal → (o ≡ Equal) × (p ≡ Equal)
 then-equal Less p e = absurd (let z : _≡_ {A = ℕ} 0 1 = cc in omega arith)
 then-equal Equal p e = (refl, e)
@@ -66,13 +63,13 @@ module _ {X : Type 0} (order : X → X → Ordering) (total : Total-order order)
   by-transitive (x ∷ xs) (y ∷ ys) (z ∷ zs) e f =
       let r = order-by order xs zs in
       elim (then-less (order x y) (order-by order xs ys) e) [
-        inl a ↦ elim (then-less (order y z) (order-by order ys zs) f) [
-          inl b ↦ ap (λ o. thenBy o (order-by order xs zs)) (total .transitive x y z a b)
-        | inr b ↦ ap (λ o. thenBy o (order-by order xs zs)) (sym (ap (order x) (total .equal y z (b .0))) ∙ a)
+        | inl a ↦ elim (then-less (order y z) (order-by order ys zs) f) [
+          | inl b ↦ ap (λ o. thenBy o (order-by order xs zs)) (total .transitive x y z a b)
+          | inr b ↦ ap (λ o. thenBy o (order-by order xs zs)) (sym (ap (order x) (total .equal y z (b .0))) ∙ a)
         ]
-      | inr a ↦ elim (then-less (order y z) (order-by order ys zs) f) [
-          inl b ↦ ap (λ o. thenBy o (order-by order xs zs)) (ap (λ w. order w z) (total .equal x y (a .0)) ∙ b)
-        | inr b ↦ ap (λ o. thenBy o (order-by order xs zs)) (ap (λ w. order w z) (total .equal x y (a .0)) ∙ (b .0)) ∙ by-transitive xs ys zs (a .1) (b .1)
+        | inr a ↦ elim (then-less (order y z) (order-by order ys zs) f) [
+          | inl b ↦ ap (λ o. thenBy o (order-by order xs zs)) (ap (λ w. order w z) (total .equal x y (a .0)) ∙ b)
+          | inr b ↦ ap (λ o. thenBy o (order-by order xs zs)) (ap (λ w. order w z) (total .equal x y (a .0)) ∙ (b .0)) ∙ by-transitive xs ys zs (a .1) (b .1)
         ]
       ]
 
@@ -90,7 +87,8 @@ total-byte = record {
   same = λ x. grind (arith, tells);
   equal = λ x y e. let l = cases-bool (ltb x y) in let r = cases-bool (ltb y x) in grind (arith, tells);
   turned = λ x y. let l = cases-bool (ltb x y) in let r = cases-bool (ltb y x) in grind (arith, tells);
-  transitive = λ x y z e f. let l = cases-bool (ltb x y) in let r = cases-bool (ltb y z) in let w = cases-bool (ltb y x) in let v = cases-bool (ltb z y) in grind (arith, tells) }
+  transitive = λ x y z e f. let l = cases-bool (ltb x y) in let r = cases-bool (ltb y z) in let w = cases-bool (ltb y x) in let v = cases-bool (ltb z y) in grind (arith, tells);
+}
 
 total-name : Total-order order-name
 total-name = total-by order-byte total-byte
@@ -103,7 +101,8 @@ total-path = record {
   same = λ p. total-names .same (outward [] p);
   equal = λ p q e. sym (outward-back [] p) ∙ (ap (outward []) (total-names .equal (outward [] p) (outward [] q) e) ∙ outward-back [] q);
   turned = λ p q. total-names .turned (outward [] p) (outward [] q);
-  transitive = λ p q r. total-names .transitive (outward [] p) (outward [] q) (outward [] r) }
+  transitive = λ p q r. total-names .transitive (outward [] p) (outward [] q) (outward [] r);
+}
 
 above-more : (p q acc : Names) → starts-with q p ≡ true → isLe (order-by order-name (outward [] p) (outward acc q)) ≡ true
 above-more p [] acc h =
@@ -111,10 +110,10 @@ above-more p [] acc h =
     ap (λ x. isLe (order-by order-name (outward [] x) acc)) (sym e) ∙ beginning order-name total-name [] acc
 above-more p (n ∷ q) acc h =
     elim (cases-bool (same-path (n ∷ q) p)) [
-      inl t ↦
-        let e = same-path-true (n ∷ q) p t in
-        ap (λ x. isLe (order-by order-name (outward [] x) (outward acc (n ∷ q)))) (sym e) ∙ (ap (λ x. isLe (order-by order-name (outward [] (n ∷ q)) x)) (outward-append acc (n ∷ q)) ∙ beginning order-name total-name (outward [] (n ∷ q)) acc)
-    | inr t ↦ above-more p q (n ∷ acc) (sym (cond-false (same-path (n ∷ q) p) true (starts-with q p) t) ∙ h)
+      | inl t ↦
+          let e = same-path-true (n ∷ q) p t in
+          ap (λ x. isLe (order-by order-name (outward [] x) (outward acc (n ∷ q)))) (sym e) ∙ (ap (λ x. isLe (order-by order-name (outward [] (n ∷ q)) x)) (outward-append acc (n ∷ q)) ∙ beginning order-name total-name (outward [] (n ∷ q)) acc)
+      | inr t ↦ above-more p q (n ∷ acc) (sym (cond-false (same-path (n ∷ q) p) true (starts-with q p) t) ∙ h)
     ]
 
 pub above-first : Above-first

@@ -12,8 +12,8 @@ use Rattle.paths.specs.Texts.{normalised, zeroless, read}
 -- A normal form has nothing but names, and to normalise its text again, below any directory, changes nothing.
 abbrev pub Normal-form : Type 0
 Normal-form =
-  (cwd : Names) (t : Text) → good cwd ≡ true → zeroless t ≡ true →
-  (good (normalised cwd t) ≡ true) × ((below : Names) → normalised below (text (normalised cwd t)) ≡ normalised cwd t)
+    (cwd : Names) (t : Text) → good cwd ≡ true → zeroless t ≡ true →
+    (good (normalised cwd t) ≡ true) × ((below : Names) → normalised below (text (normalised cwd t)) ≡ normalised cwd t)
 
 -- The text of a path within the limits, read below any directory, is that path.
 abbrev pub Reads-back : Type 0

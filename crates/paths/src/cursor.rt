@@ -42,6 +42,9 @@ impl<'a> Cursor<'a> {
             end += 1;
         }
         self.at = end + 1;
-        Some(Part { name: &text[place..end], place })
+        Some(Part {
+            name: &text[place..end],
+            place,
+        })
     }
 }

@@ -26,25 +26,37 @@ impl Class {
     pub fn directory(canonical: &Path) -> Class
         ensures { λ r. ⌜ class-of r ≡ Ok (directory (names (now (canonical .entry)))) ⌝ }
     {
-        Class { kind: Kind::Directory, canonical: *canonical }
+        Class {
+            kind: Kind::Directory,
+            canonical: *canonical,
+        }
     }
 
     pub fn link() -> Class
         ensures { λ r. ⌜ class-of r ≡ Ok symlink ⌝ }
     {
-        Class { kind: Kind::Link, canonical: Path::root() }
+        Class {
+            kind: Kind::Link,
+            canonical: Path::root(),
+        }
     }
 
     pub fn other() -> Class
         ensures { λ r. ⌜ class-of r ≡ Ok other ⌝ }
     {
-        Class { kind: Kind::Other, canonical: Path::root() }
+        Class {
+            kind: Kind::Other,
+            canonical: Path::root(),
+        }
     }
 
     pub fn failed(cause: ScanCause) -> Class
         ensures { λ r. ⌜ class-of r ≡ Err cause ⌝ }
     {
-        Class { kind: Kind::Failed(cause), canonical: Path::root() }
+        Class {
+            kind: Kind::Failed(cause),
+            canonical: Path::root(),
+        }
     }
 
     pub(crate) fn is_link(&self) -> bool

@@ -35,11 +35,21 @@ impl Sheet {
         let unfollowed = Table::new(heap)?;
         let listings = Table::new(heap)?;
         let items = Queue::new(heap)?;
-        Ok(Sheet { followed, unfollowed, listings, items })
+        Ok(Sheet {
+            followed,
+            unfollowed,
+            listings,
+            items,
+        })
     }
 
     // Sets what a path is, asked for with that follow mark, in place of what was set.
-    pub fn classify_as(&mut self, path: &Path, follow: bool, class: Class) -> Result<(), ClassRefusal>
+    pub fn classify_as(
+        &mut self,
+        path: &Path,
+        follow: bool,
+        class: Class,
+    ) -> Result<(), ClassRefusal>
         ensures value { λ r. ⌜ r ≡ classified-as (names (now (path .entry))) follow (class-of class) (rows (now (self .entry))) .0 ⌝ }
         ensures after { λ _. ⌜ rows (now (self .exit)) ≡ classified-as (names (now (path .entry))) follow (class-of class) (rows (now (self .entry))) .1 ⌝ }
     {
@@ -85,7 +95,10 @@ impl Sheet {
         ensures value { λ r. ⌜ r ≡ added (names (now (path .entry))) (spelt item) (rows (now (self .entry))) .0 ⌝ }
         ensures after { λ _. ⌜ rows (now (self .exit)) ≡ added (names (now (path .entry))) (spelt item) (rows (now (self .entry))) .1 ⌝ }
     {
-        self.items.push_back(Entry { key: *path, value: item })
+        self.items.push_back(Entry {
+            key: *path,
+            value: item,
+        })
     }
 
     // Removes the rows at a path and below it.

@@ -6,6 +6,7 @@ pub mod followed;
 pub mod prepared;
 pub mod refusal;
 pub mod scanning;
+
 pub use class::Class;
 pub use prepared::Sheet;
 pub use refusal::ClassRefusal;

@@ -82,7 +82,12 @@ pub impl Scanner for Sheet as SheetScanner {
 
     ghost listed = { λ s p. listedIn (rows s) p };
 
-    fn classify(&self, path: &Path, follow: bool, canonical: &mut Path) -> Result<EntryKind, ScanCause> {
+    fn classify(
+        &self,
+        path: &Path,
+        follow: bool,
+        canonical: &mut Path,
+    ) -> Result<EntryKind, ScanCause> {
         let class = self.class(path, follow);
         match class.kind {
             Kind::Directory => {

@@ -47,7 +47,10 @@ impl Name {
         }
         let mut own = [0; 255];
         copy(&mut own, bytes);
-        Some(Name { bytes: own, len: bytes.len() })
+        Some(Name {
+            bytes: own,
+            len: bytes.len(),
+        })
     }
 
     pub fn bytes(&self) -> &[u8]

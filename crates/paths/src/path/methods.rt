@@ -24,7 +24,11 @@ impl Path {
     pub fn root() -> Path
         ensures { λ r. ⌜ names r ≡ [] ⌝ }
     {
-        Path { text: [0; 64], len: 0, depth: 0 }
+        Path {
+            text: [0; 64],
+            len: 0,
+            depth: 0,
+        }
     }
 
     pub fn depth(&self) -> usize
@@ -41,7 +45,7 @@ impl Path {
         if self.depth == 0 {
             return b"/";
         }
-        &self.text[0..self.len]
+        &self.text[0..self.len] // as it is kept
     }
 
     // Puts the child of that name into the place that the caller lends.
@@ -55,7 +59,11 @@ impl Path {
         }
         let mut text = self.text;
         extend(&mut text, self.len, bytes);
-        *child = Path { text, len: self.len + 1 + bytes.len(), depth: self.depth + 1 };
+        *child = Path {
+            text,
+            len: self.len + 1 + bytes.len(),
+            depth: self.depth + 1,
+        };
         Ok(())
     }
 
@@ -69,7 +77,11 @@ impl Path {
         let k = last_slash(&self.text[0..self.len]);
         let mut text = self.text;
         blank(&mut text, k);
-        Path { text, len: k, depth: self.depth - 1 }
+        Path {
+            text,
+            len: k,
+            depth: self.depth - 1,
+        }
     }
 
     // Its innermost name; "/" has none.

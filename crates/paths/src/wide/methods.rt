@@ -20,7 +20,11 @@ impl Wide {
         ensures value { λ r. ⌜ wide-names r ≡ [] ⌝ }
         ensures len { λ r. ⌜ r .len ≡ 0 ⌝ }
     {
-        Wide { text: [0; 136], len: 0, depth: 0 }
+        Wide {
+            text: [0; 136],
+            len: 0,
+            depth: 0,
+        }
     }
 
     pub fn of(path: &Path) -> Wide
@@ -29,7 +33,11 @@ impl Wide {
     {
         let mut text = [0; 136];
         copy(&mut text, &path.text);
-        Wide { text, len: path.len, depth: path.depth }
+        Wide {
+            text,
+            len: path.len,
+            depth: path.depth,
+        }
     }
 
     fn push(&mut self, name: &[u8])
@@ -80,7 +88,11 @@ impl Wide {
         }
         let mut text = [0; 64];
         copy(&mut text, &self.text[0..64]);
-        *path = Path { text, len: self.len, depth: self.depth };
+        *path = Path {
+            text,
+            len: self.len,
+            depth: self.depth,
+        };
         Ok(())
     }
 }

@@ -10,8 +10,8 @@ loop-k-again c =
     let e = at-drop-more (λ bs. last-slash bs (c .loop-k .k) (c .loop-k .at)) (c .args .text .now) (c .loop-k .k) 0 (c .loop-k-test .taken) in
     let i = c .loop-k .inv in
     elim (c .if-b-eq47 .came) [
-      then-b-eq47 w ↦ let a = w .at-is in let t = w .if-b-eq47 .taken in grind (arith, tells)
-    | else-b-eq47 w ↦ let a = w .at-is in let t = w .if-b-eq47 .left in grind (arith, tells)
+      | then-b-eq47 w ↦ let a = w .at-is in let t = w .if-b-eq47 .taken in grind (arith, tells)
+      | else-b-eq47 w ↦ let a = w .at-is in let t = w .if-b-eq47 .left in grind (arith, tells)
     ]
 
 pub returns : need.returns

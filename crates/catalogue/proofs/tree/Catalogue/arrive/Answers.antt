@@ -11,7 +11,8 @@ returns-in-Clear c =
     let e = sym (c .turns .inv) ∙ turn-clear (c .args .last) (nodes (c .args .self .now)) (names (c .turns .place)) (c .turns .left) (node-of (c .in-Clear .kind) (names (c .pass .last .place))) (sym (c .in-Clear .ensures tt)) in
     record {
       value = sym (ap replied e ∙ ap Ok (kind-node (c .in-Clear .kind) (names (c .pass .last .place))));
-      after = sym (ap (λ a. come-to a (names (c .turns .place))) e) }
+      after = sym (ap (λ a. come-to a (names (c .turns .place))) e);
+    }
 
 pub returns-in-Stopped : need.returns-in-Stopped
 returns-in-Stopped c =

@@ -25,12 +25,12 @@ loop-entry-again c =
     let is : c .entry-item .result ≡ getD (vec-items (c .args .self .now .nodes .items)) (c .loop-entry .entry-index) (c .entry-item .result) = c .entry-item .is ∙ ap (λ ys. getD ys (c .loop-entry .entry-index) (c .entry-item .result)) s in
     let rest = child-at (names (c .args .directory .now)) (map entry-of (drop (c .loop-entry .entry-index + 1) (vec-items (c .args .self .now .nodes .items)))) in
     elim (c .match-child-name .came) [
-      in-Some·else-left-eq0 w ↦
-        ap (child-at (names (c .args .directory .now)) (map entry-of (drop (c .loop-entry .entry-index + 1) (vec-items (c .args .self .now .nodes .items))))) (w .left-is)
-        ∙ (sym (next-passed (names (c .args .directory .now)) (vec-items (c .args .self .now .nodes .items)) (c .loop-entry .entry-index) (c .entry-item .result) lt is (c .loop-entry .left) (spelling (w .in-Some .name)) (omega (arith, w .if-left-eq0 .left)) (w .in-Some .ensures tt)) ∙ c .loop-entry .inv)
-    | in-rest w ↦
-        ap (child-at (names (c .args .directory .now)) (map entry-of (drop (c .loop-entry .entry-index + 1) (vec-items (c .args .self .now .nodes .items))))) (w .left-is)
-        ∙ (sym (next-none (names (c .args .directory .now)) (vec-items (c .args .self .now .nodes .items)) (c .loop-entry .entry-index) (c .entry-item .result) lt is (c .loop-entry .left) (w .in-rest .ensures tt)) ∙ c .loop-entry .inv)
+      | in-Some·else-left-eq0 w ↦
+          ap (child-at (names (c .args .directory .now)) (map entry-of (drop (c .loop-entry .entry-index + 1) (vec-items (c .args .self .now .nodes .items))))) (w .left-is)
+          ∙ (sym (next-passed (names (c .args .directory .now)) (vec-items (c .args .self .now .nodes .items)) (c .loop-entry .entry-index) (c .entry-item .result) lt is (c .loop-entry .left) (spelling (w .in-Some .name)) (omega (arith, w .if-left-eq0 .left)) (w .in-Some .ensures tt)) ∙ c .loop-entry .inv)
+      | in-rest w ↦
+          ap (child-at (names (c .args .directory .now)) (map entry-of (drop (c .loop-entry .entry-index + 1) (vec-items (c .args .self .now .nodes .items))))) (w .left-is)
+          ∙ (sym (next-none (names (c .args .directory .now)) (vec-items (c .args .self .now .nodes .items)) (c .loop-entry .entry-index) (c .entry-item .result) lt is (c .loop-entry .left) (w .in-rest .ensures tt)) ∙ c .loop-entry .inv)
     ]
 
 pub returns : need.returns

@@ -19,13 +19,13 @@ returns c =
     let i = c .loop-end .inv .2 in
     let n = length-between (c .args .self .now .text .now) (c .args .self .now .at) (c .loop-end .end) (c .loop-end .inv .1) in
     elim (c .loop-end-test .came) [
-      then-loop-end-test·else-text-end-ne47 w ↦
-        let t = w .loop-end-test .taken in
-        let s = w .if-text-end-ne47 .left in
-        let e = at-drop-more (parts (between (c .args .self .now .at) (c .loop-end .end) (c .args .self .now .text .now))) (c .args .self .now .text .now) (c .loop-end .end) 0 t in
-        grind (arith, tells)
-    | else-loop-end-test w ↦
-        let t = w .loop-end-test .left in
-        let e = at-drop-all (parts (between (c .args .self .now .at) (c .loop-end .end) (c .args .self .now .text .now))) (c .args .self .now .text .now) (c .loop-end .end) t in
-        grind (arith, tells)
+      | then-loop-end-test·else-text-end-ne47 w ↦
+          let t = w .loop-end-test .taken in
+          let s = w .if-text-end-ne47 .left in
+          let e = at-drop-more (parts (between (c .args .self .now .at) (c .loop-end .end) (c .args .self .now .text .now))) (c .args .self .now .text .now) (c .loop-end .end) 0 t in
+          grind (arith, tells)
+      | else-loop-end-test w ↦
+          let t = w .loop-end-test .left in
+          let e = at-drop-all (parts (between (c .args .self .now .at) (c .loop-end .end) (c .args .self .now .text .now))) (c .args .self .now .text .now) (c .loop-end .end) t in
+          grind (arith, tells)
     ]

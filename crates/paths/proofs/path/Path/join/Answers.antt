@@ -22,9 +22,9 @@ returns-then-self-ge8 c =
     let l = ap length (c .bytes-bytes .ensures) in
     let long = length-append (render (names (c .args .self .now))) (47 ∷ spelling (c .args .name .now)) in
     let e = limited-err (n ∷ p) (elim (c .then-self-ge8 .came) [
-        then-self-ge8·by·then-self-ge8 w ↦ inl (omega (arith, w .if-self-ge8 .taken))
+      | then-self-ge8·by·then-self-ge8 w ↦ inl (omega (arith, w .if-self-ge8 .taken))
       | then-self-ge8·by·else-self-ge8·then-bytes-self w ↦ inr (omega (arith, w .if-bytes-self .taken))
-      ]) in
+    ]) in
     record { value = sym (ap replied e); after = sym (ap (λ x. placed x (names (c .args .child .now))) e) }
 
 pub ghost-child : need.ghost-child

@@ -10,4 +10,5 @@ unfolding names spelling
 returns c = record {
   value = c .order .ensures ∙ order-sealed 64 (c .args .self .now .text) (c .args .other .now .text) _ _ (c .args .self .now .len) (c .args .other .now .len) _ _ (c .args .self .now .ok) (c .args .other .now .ok) (sub-zero _) (sub-zero _);
   laws = total-path;
-  first = above-first }
+  first = above-first;
+}

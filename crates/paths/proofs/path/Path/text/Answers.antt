@@ -20,4 +20,5 @@ returns c =
     let o = c .args .self .now .ok in
     record {
       value = ap (λ i. take i (c .args .self .now .text)) (sub-zero _) ∙ (text-of 64 (c .args .self .now .text) (c .args .self .now .len) (c .args .self .now .depth) o ∙ sym (text-is (names (c .args .self .now)) (omega arith)));
-      laws = reads-back }
+      laws = reads-back;
+    }

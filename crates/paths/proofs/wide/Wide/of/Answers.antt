@@ -12,4 +12,5 @@ pub returns : need.returns
 unfolding names wide-names
 returns c = record {
   value = wide-copied 64 136 (c .args .path .now .text) (c .copy .last .to) (c .args .path .now .len) (c .args .path .now .depth) (lit≤ tt) (c .args .path .now .ok) (c .copy .ensures) .0;
-  len = c .args .path .now .ok .2 }
+  len = c .args .path .now .ok .2;
+}

@@ -30,7 +30,8 @@ returns c =
     let f : c .last-slash-k .result ≡ last-slash (take (c .args .self .now .len) (c .args .self .now .text)) 0 0 = c .last-slash-k .ensures ∙ ap (λ i. last-slash (take i (c .args .self .now .text)) 0 0) (sub-zero _) in
     record {
       after = parent-sealed 136 (c .args .self .now .text) (c .blank .last .text) (c .args .self .now .len) (c .args .self .now .depth) (c .last-slash-k .result) (c .args .self .now .ok) (c .blank .ensures) d f .0;
-      len = parent-shorter 136 (c .args .self .now .text) (c .args .self .now .len) (c .args .self .now .depth) (c .last-slash-k .result) _ (c .args .self .now .ok) d f }
+      len = parent-shorter 136 (c .args .self .now .text) (c .args .self .now .len) (c .args .self .now .depth) (c .last-slash-k .result) _ (c .args .self .now .ok) d f;
+    }
 
 pub returns-then-self-eq0 : need.returns-then-self-eq0
 unfolding wide-names

@@ -19,4 +19,5 @@ pub returns : need.returns
 unfolding names wide-names
 returns c = record {
   after = child-sealed 136 (c .args .self .now .text) (c .extend .last .text) (c .args .self .now .len) (c .args .self .now .depth) (c .args .name .now) (c .args .self .now .ok) (c .extend .ensures) (c .pre .named) (c .pre .room) .0;
-  len = omega arith }
+  len = omega arith;
+}
