@@ -1,5 +1,11 @@
 // The words of a command, taken one by one, and what each may stand for.
+ghost use mathlib.Core.Path.{_≡_};
 ghost use Prim.Native.Nat.{_≤_};
+ghost use Rattle.std.specs.Of.Vec.{vec-items};
+ghost use Rattle.std.specs.declared.option.Option.the-variants.{Some};
+ghost use Rattle.paths.specs.Model.{spelling};
+ghost use Rattle.scenario.specs.Escapes.{decoded};
+ghost use Rattle.scenario.specs.Numbers.{numeral};
 ghost use Rattle.std.specs.Vec.{made};
 use crate::wrong::Wrong;
 use paths::Name;
@@ -97,7 +103,9 @@ impl<'a> Args<'a> {
     }
 }
 
-pub fn read_text(heap: Global, word: &[u8]) -> Result<Vec<u8>, Wrong> {
+pub fn read_text(heap: Global, word: &[u8]) -> Result<Vec<u8>, Wrong>
+    ensures { λ r. ⌜ made r (λ t. decoded (now (word .entry)) ≡ Some (vec-items t)) ⌝ }
+{
     match decode(heap, word) {
         Ok(text) => Ok(text),
         Err(TextError::BadText) => Err(Wrong::NoText),
@@ -114,7 +122,9 @@ pub fn read_path(heap: Global, word: &[u8], place: &mut Path) -> Result<(), Wron
     }
 }
 
-pub fn read_name(heap: Global, word: &[u8]) -> Result<Name, Wrong> {
+pub fn read_name(heap: Global, word: &[u8]) -> Result<Name, Wrong>
+    ensures { λ r. ⌜ made r (λ n. decoded (now (word .entry)) ≡ Some (spelling n)) ⌝ }
+{
     let text = read_text(heap, word)?;
     match Name::new(&text) {
         Some(name) => Ok(name),
@@ -123,7 +133,7 @@ pub fn read_name(heap: Global, word: &[u8]) -> Result<Name, Wrong> {
 }
 
 pub fn read_number(word: &[u8], most: u64) -> Result<u64, Wrong>
-    ensures { λ r. ⌜ made r (λ n. n ≤ most) ⌝ }
+    ensures { λ r. ⌜ made r (λ n. (numeral (now (word .entry)) ≡ Some n) × (n ≤ most)) ⌝ }
 {
     let Some(n) = number(word) else {
         return Err(Wrong::NoNumber);

@@ -4,6 +4,7 @@ use crate::wrong::Wrong;
 use outside::BackendCause;
 use outside::Carried;
 use outside::EntryKind;
+use outside::FilterFault;
 use outside::ScanCause;
 use paths::Path;
 use scenario::encode;
@@ -124,6 +125,19 @@ pub fn write_entry(
         Ok(EntryKind::NonFollowedSymlink) => out.push_str("symlink")?,
         Ok(EntryKind::Other) => out.push_str("other")?,
         Err(cause) => write_scan_cause(out, cause)?,
+    }
+    out.push('\n')
+}
+
+// The line of a filterer's answer.
+pub fn write_verdict(
+    out: &mut String,
+    verdict: Result<bool, FilterFault>,
+) -> Result<(), AllocError> {
+    match verdict {
+        Ok(true) => out.push_str("yes")?,
+        Ok(false) => out.push_str("no")?,
+        Err(fault) => write_numbered(out, "fault:", u64::from(fault.0))?,
     }
     out.push('\n')
 }

@@ -4,17 +4,16 @@ use crate::causes::write_entry;
 use crate::causes::write_numbered;
 use crate::causes::write_request;
 use crate::causes::write_scan_cause;
+use crate::causes::write_verdict;
 use crate::commands::Question;
 use crate::world::World;
 use crate::wrong::Wrong;
 use crate::wrong::WrongFromAlloc;
 use outside::Carried;
-use outside::FilterFault;
 use outside::Item;
 use outside::ScanCause;
 use paths::Name;
 use paths::Path;
-use paths::Refusal;
 use paths::absolute;
 use scenario::encode;
 use std::alloc::AllocError;
@@ -31,41 +30,43 @@ pub fn answer(
     match question {
         Question::Look => look(world, args, out),
         Question::Items => items(world, args, out),
-        Question::Watch => watch(world, args, out),
-        Question::Unwatch => unwatch(world, args, out),
+        Question::Watch => request(world, args, out, true),
+        Question::Unwatch => request(world, args, out, false),
         Question::Fill => fill(world, args, out),
         Question::Verdict => verdict(world, args, out),
     }
 }
 
-fn refused(out: &mut String, refusal: Refusal) -> Result<(), Wrong> {
+// Puts the path that a text names below "/" into the place, or prints the refusal and answers no.
+fn takes(text: &[u8], place: &mut Path, out: &mut String) -> Result<bool, AllocError> {
+    let Err(refusal) = absolute(&Path::root(), text, place) else {
+        return Ok(true);
+    };
     write_numbered(out, "refused ", u64::from(refusal.number()))?;
     out.push('\n')?;
-    Ok(())
+    Ok(false)
 }
 
-fn look(world: &mut World, args: &mut Args<'_>, out: &mut String) -> Result<(), Wrong> {
+fn look(world: &World, args: &mut Args<'_>, out: &mut String) -> Result<(), Wrong> {
     let text = args.text(world.heap)?;
     let follow = args.follow()?;
     args.end()?;
     let mut path = Path::root();
-    if let Err(refusal) = absolute(&Path::root(), &text, &mut path) {
-        return refused(out, refusal);
+    if takes(&text, &mut path, out)? {
+        let mut canonical = Path::root();
+        let entry = world.scanner.classify(&path, follow, &mut canonical);
+        write_entry(out, entry, &canonical)?;
     }
-    let mut canonical = Path::root();
-    let entry = world.scanner.classify(&path, follow, &mut canonical);
-    write_entry(out, entry, &canonical)?;
     Ok(())
 }
 
-fn items(world: &mut World, args: &mut Args<'_>, out: &mut String) -> Result<(), Wrong> {
+fn items(world: &World, args: &mut Args<'_>, out: &mut String) -> Result<(), Wrong> {
     let text = args.text(world.heap)?;
     args.end()?;
     let mut path = Path::root();
-    if let Err(refusal) = absolute(&Path::root(), &text, &mut path) {
-        return refused(out, refusal);
+    if takes(&text, &mut path, out)? {
+        list(world, &path, out)?;
     }
-    list(world, &path, out)?;
     Ok(())
 }
 
@@ -103,33 +104,30 @@ fn write_failure(out: &mut String, cause: ScanCause) -> Result<(), AllocError> {
     out.push('\n')
 }
 
-fn watch(world: &mut World, args: &mut Args<'_>, out: &mut String) -> Result<(), Wrong> {
+fn request(
+    world: &mut World,
+    args: &mut Args<'_>,
+    out: &mut String,
+    watch: bool,
+) -> Result<(), Wrong> {
     let text = args.text(world.heap)?;
     args.end()?;
     let mut path = Path::root();
-    if let Err(refusal) = absolute(&Path::root(), &text, &mut path) {
-        return refused(out, refusal);
+    if !takes(&text, &mut path, out)? {
+        return Ok(());
     }
     let mut carried = Carried::nothing();
-    let answer = world.backend.watch(&path, &mut carried)?;
-    write_request(out, "watch", &path, answer, &carried)?;
+    if watch {
+        let answer = world.backend.watch(&path, &mut carried)?;
+        write_request(out, "watch", &path, answer, &carried)?;
+    } else {
+        let answer = world.backend.unwatch(&path, &mut carried)?;
+        write_request(out, "unwatch", &path, answer, &carried)?;
+    }
     Ok(())
 }
 
-fn unwatch(world: &mut World, args: &mut Args<'_>, out: &mut String) -> Result<(), Wrong> {
-    let text = args.text(world.heap)?;
-    args.end()?;
-    let mut path = Path::root();
-    if let Err(refusal) = absolute(&Path::root(), &text, &mut path) {
-        return refused(out, refusal);
-    }
-    let mut carried = Carried::nothing();
-    let answer = world.backend.unwatch(&path, &mut carried)?;
-    write_request(out, "unwatch", &path, answer, &carried)?;
-    Ok(())
-}
-
-fn fill(world: &mut World, args: &mut Args<'_>, out: &mut String) -> Result<(), Wrong> {
+fn fill(world: &World, args: &mut Args<'_>, out: &mut String) -> Result<(), Wrong> {
     args.end()?;
     let fill = world.backend.fill()?;
     write_numbered(out, "fill ", fill as u64)?;
@@ -137,20 +135,12 @@ fn fill(world: &mut World, args: &mut Args<'_>, out: &mut String) -> Result<(), 
     Ok(())
 }
 
-fn verdict(world: &mut World, args: &mut Args<'_>, out: &mut String) -> Result<(), Wrong> {
+fn verdict(world: &World, args: &mut Args<'_>, out: &mut String) -> Result<(), Wrong> {
     let text = args.text(world.heap)?;
     args.end()?;
     let mut path = Path::root();
-    if let Err(refusal) = absolute(&Path::root(), &text, &mut path) {
-        return refused(out, refusal);
-    }
-    match world.rules.verdict(&path) {
-        Ok(true) => out.push_str("yes\n")?,
-        Ok(false) => out.push_str("no\n")?,
-        Err(FilterFault(number)) => {
-            write_numbered(out, "fault:", u64::from(number))?;
-            out.push('\n')?;
-        }
+    if takes(&text, &mut path, out)? {
+        write_verdict(out, world.rules.verdict(&path))?;
     }
     Ok(())
 }
