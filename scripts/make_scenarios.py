@@ -93,6 +93,13 @@ scenario(
 )
 scenario("long-listing", "sheet", "list /many " + " ".join(f"=i{i:02}" for i in range(65)), "items /many")
 scenario("long-names", "sheet", "list /long =" + "n" * 255, "items /long")
+scenario("full-classes", "sheet", *[f"class /c{i:03} follow other" for i in range(512)], "class /c000 follow number:1", "look /c000 follow",
+         "class /c512 nofollow other", "look /c512 nofollow", "class /c512 follow other", "look /c512 follow")
+scenario("full-listings", "sheet", *[f"unlist /l{i:03} not-found" for i in range(256)], "list /l000 =a", "items /l000",
+         "strike /l001", "list /other =b", "items /other", "unlist /one-more not-found", "items /one-more")
+scenario("full-items", "sheet", "list /many " + " ".join(["=n"] * 2047) + " =last", "list /other", "items /other", "list /many =one", "items /many",
+         "list /other =two =three", "items /other")
+scenario("one-item-too-many", "sheet", "list /many " + " ".join(["=n"] * 2048) + " =last", "items /many")
 scenario(
     "board",
     "board 2", "fill", "watch /a", "fill", "watch /a", "watch /b", "watch /c", "watch /a", "fill",
@@ -110,6 +117,7 @@ scenario(
 )
 scenario("a-full-book", "roll", *[f"watch /w{i:03}" for i in range(128)], "answer other", "watch /one-more", "watch /w000", "watch /one-more",
          "answer watch-not-found", "unwatch /w001", "watch /one-more", "watch /two-more")
+scenario("full-roll", "roll", *["answer other"] * 1024, "watch /a", "answer done", "watch /b", "answer io:5", "answer io:6", "watch /c")
 names = [f"n{i}" for i in range(1, 17)]
 scenario("sixteen-names", *[f"deny {n}" for n in names], "verdict /n16", "verdict /n1/x", "verdict /x/n1", "verdict /", "verdict /n17",
          "deny n16", "verdict /n16", "filter", "verdict /n16")

@@ -138,6 +138,11 @@ class Sheet:
     def __init__(self):
         self.classes, self.lists = {}, {}
 
+    def listing(self, path, value):
+        if path not in self.lists and len(self.lists) >= 256:
+            raise Wrong("the sheet is full at")
+        self.lists[path] = value
+
     def strike(self, path):
         self.classes = {k: v for k, v in self.classes.items() if k[0][:len(path)] != path}
         self.lists = {k: v for k, v in self.lists.items() if k[:len(path)] != path}
@@ -276,6 +281,8 @@ def outside(s, command, words):
             words.end()
         if s.back is None or s.back[0] != "roll":
             raise Wrong("the backend is no roll:")
+        if len(s.back[1]) >= 1024:
+            raise Wrong("the roll is full at")
         s.back[1].append((cause, carried))
     elif c in ("catalogue", "sheet"):
         words.end()
@@ -303,11 +310,14 @@ def outside(s, command, words):
         need_sheet(s)
         if follow and value == "symlink":
             raise Wrong("no link with following on:")
+        rows = [p for p, mark in s.scan.classes if mark == follow]
+        if path not in rows and len(rows) >= 512:
+            raise Wrong("the sheet is full at")
         s.scan.classes[path, follow] = value
     elif c == "list":
         path, items = words.path(), []
         need_sheet(s)
-        s.scan.lists[path] = items
+        s.scan.listing(path, items)
         while (word := words.next()) is not None:
             if word.startswith(b"="):
                 items.append("item " + encode(words.name(word[1:])))
@@ -315,11 +325,13 @@ def outside(s, command, words):
                 items.append("cause " + scan_cause(word[1:]))
             else:
                 raise Wrong("neither =NAME nor !CAUSE:")
+            if sum(len(rows) for rows in s.scan.lists.values() if isinstance(rows, list)) > 2048:
+                raise Wrong("the sheet is full at")
     elif c == "unlist":
         path, cause = words.path(), scan_cause(words.word())
         words.end()
         need_sheet(s)
-        s.scan.lists[path] = cause
+        s.scan.listing(path, cause)
     elif c == "strike":
         path = words.path()
         words.end()
