@@ -1,4 +1,6 @@
 // The words that begin a line.
+ghost use mathlib.Core.Path.{_≡_};
+ghost use Rattle.linenplane.specs.Commands.{backend-word, scanner-word, row-word, filter-word, question-word};
 use scenario::is_word;
 
 #[derive(Clone, Copy)]
@@ -39,7 +41,9 @@ pub enum Question {
     Verdict,
 }
 
-pub fn backend_word(word: &[u8]) -> Option<BackendCommand> {
+pub fn backend_word(word: &[u8]) -> Option<BackendCommand>
+    ensures { λ r. ⌜ r ≡ backend-word (now (word .entry)) ⌝ }
+{
     if is_word(word, b"board") {
         return Some(BackendCommand::Board);
     }
@@ -52,7 +56,9 @@ pub fn backend_word(word: &[u8]) -> Option<BackendCommand> {
     None
 }
 
-pub fn scanner_word(word: &[u8]) -> Option<ScannerCommand> {
+pub fn scanner_word(word: &[u8]) -> Option<ScannerCommand>
+    ensures { λ r. ⌜ r ≡ scanner-word (now (word .entry)) ⌝ }
+{
     if is_word(word, b"catalogue") {
         return Some(ScannerCommand::Catalogue);
     }
@@ -75,7 +81,9 @@ pub fn scanner_word(word: &[u8]) -> Option<ScannerCommand> {
 }
 
 // The commands for the rows of a sheet.
-fn row_word(word: &[u8]) -> Option<ScannerCommand> {
+fn row_word(word: &[u8]) -> Option<ScannerCommand>
+    ensures { λ r. ⌜ r ≡ row-word (now (word .entry)) ⌝ }
+{
     if is_word(word, b"class") {
         return Some(ScannerCommand::Class);
     }
@@ -88,7 +96,9 @@ fn row_word(word: &[u8]) -> Option<ScannerCommand> {
     None
 }
 
-pub fn filter_word(word: &[u8]) -> Option<FilterCommand> {
+pub fn filter_word(word: &[u8]) -> Option<FilterCommand>
+    ensures { λ r. ⌜ r ≡ filter-word (now (word .entry)) ⌝ }
+{
     if is_word(word, b"filter") {
         return Some(FilterCommand::Filter);
     }
@@ -104,7 +114,9 @@ pub fn filter_word(word: &[u8]) -> Option<FilterCommand> {
     None
 }
 
-pub fn question_word(word: &[u8]) -> Option<Question> {
+pub fn question_word(word: &[u8]) -> Option<Question>
+    ensures { λ r. ⌜ r ≡ question-word (now (word .entry)) ⌝ }
+{
     if is_word(word, b"look") {
         return Some(Question::Look);
     }
