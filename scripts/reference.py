@@ -1,7 +1,7 @@
 #!/usr/bin/env python3
 """A second reading of docs/RULES.md and docs/SCENARIO.md, in Python: does the outside commands and the direct questions.
 
-It shares nothing with the program. `reference.py < stdin > stdout` made crates/linenplane/stdout."""
+It shares no code with the program. `reference.py < stdin > stdout` made crates/linenplane/stdout."""
 import sys
 
 

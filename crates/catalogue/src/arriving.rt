@@ -23,7 +23,7 @@ fn lost(left: u8) -> ScanCause
 
 impl Catalogue {
     // Goes on from the path in the place, which then holds the path that was come to.
-    pub fn arrive(&self, last: bool, place: &mut Path) -> Result<Kind, ScanCause>
+    pub(crate) fn arrive(&self, last: bool, place: &mut Path) -> Result<Kind, ScanCause>
         ensures value { λ r. ⌜ r ≡ replied (arriveAt last (nodes (now (self .entry))) 8 (names (now (place .entry)))) ⌝ }
         ensures after { λ _. ⌜ names (now (place .exit)) ≡ come-to (arriveAt last (nodes (now (self .entry))) 8 (names (now (place .entry)))) (names (now (place .exit))) ⌝ }
     {

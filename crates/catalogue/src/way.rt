@@ -64,7 +64,7 @@ impl Catalogue {
         }
     }
 
-    pub fn way(&self, path: &Path, place: &mut Path) -> Way
+    pub(crate) fn way(&self, path: &Path, place: &mut Path) -> Way
         ensures { λ r. ⌜ way-of r (names (now (place .exit))) ≡ wayTo (nodes (now (self .entry))) (names (now (path .entry))) ⌝ }
     {
         if path.depth() == 0 {
@@ -76,7 +76,7 @@ impl Catalogue {
     }
 
     // The way, where a link in last place is passed if `last` says so.
-    pub fn pass(&self, last: bool, path: &Path, place: &mut Path) -> Way
+    pub(crate) fn pass(&self, last: bool, path: &Path, place: &mut Path) -> Way
         ensures { λ r. ⌜ way-of r (names (now (place .exit))) ≡ passed last (wayTo (nodes (now (self .entry))) (names (now (path .entry)))) ⌝ }
     {
         match self.way(path, place) {
