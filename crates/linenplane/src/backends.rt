@@ -6,6 +6,7 @@ use crate::commands::BackendCommand;
 use crate::ends::AnyBackend;
 use crate::world::World;
 use crate::wrong::Wrong;
+use crate::wrong::WrongFromAlloc;
 use paths::Path;
 use simulated::Board;
 use simulated::BoardError;
@@ -45,13 +46,8 @@ fn roll(world: &mut World, args: &mut Args<'_>) -> Result<(), Wrong> {
     if !world.backend.is_none() {
         return Err(Wrong::SecondBackend);
     }
-    match Roll::new(world.heap) {
-        Ok(roll) => {
-            world.backend = AnyBackend::Roll(roll);
-            Ok(())
-        }
-        Err(_) => Err(Wrong::NoMemory),
-    }
+    world.backend = AnyBackend::Roll(Roll::new(world.heap)?);
+    Ok(())
 }
 
 fn answer(world: &mut World, args: &mut Args<'_>) -> Result<(), Wrong> {

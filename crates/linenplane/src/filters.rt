@@ -4,6 +4,7 @@ use crate::commands::FilterCommand;
 use crate::rules::Rules;
 use crate::world::World;
 use crate::wrong::Wrong;
+use crate::wrong::WrongFromAlloc;
 
 pub fn filter_command(
     world: &mut World,
@@ -20,13 +21,8 @@ pub fn filter_command(
 
 fn filter(world: &mut World, args: &mut Args<'_>) -> Result<(), Wrong> {
     args.end()?;
-    match Rules::new(world.heap) {
-        Ok(rules) => {
-            world.rules = rules;
-            Ok(())
-        }
-        Err(_) => Err(Wrong::NoMemory),
-    }
+    world.rules = Rules::new(world.heap)?;
+    Ok(())
 }
 
 fn deny(world: &mut World, args: &mut Args<'_>) -> Result<(), Wrong> {

@@ -6,6 +6,7 @@ use crate::commands::ScannerCommand;
 use crate::ends::AnyScanner;
 use crate::world::World;
 use crate::wrong::Wrong;
+use crate::wrong::WrongFromAlloc;
 use catalogue::Catalogue;
 use catalogue::Node;
 use paths::Path;
@@ -37,24 +38,14 @@ pub fn scanner_command(
 
 fn catalogue(world: &mut World, args: &mut Args<'_>) -> Result<(), Wrong> {
     args.end()?;
-    match Catalogue::new(world.heap) {
-        Ok(catalogue) => {
-            world.scanner = AnyScanner::Catalogue(catalogue);
-            Ok(())
-        }
-        Err(_) => Err(Wrong::NoMemory),
-    }
+    world.scanner = AnyScanner::Catalogue(Catalogue::new(world.heap)?);
+    Ok(())
 }
 
 fn sheet(world: &mut World, args: &mut Args<'_>) -> Result<(), Wrong> {
     args.end()?;
-    match Sheet::new(world.heap) {
-        Ok(sheet) => {
-            world.scanner = AnyScanner::Sheet(sheet);
-            Ok(())
-        }
-        Err(_) => Err(Wrong::NoMemory),
-    }
+    world.scanner = AnyScanner::Sheet(Sheet::new(world.heap)?);
+    Ok(())
 }
 
 fn node(world: &mut World, args: &mut Args<'_>, node: Node) -> Result<(), Wrong> {
