@@ -7,7 +7,7 @@ ghost use Rattle.paths.specs.Bytes.{grown, trimmed, last-slash, last-part, key
 use std::cmp::Ordering;
 
 // Writes a slash and the name at `len`.
-pub fn extend(text: &mut [u8], len: usize, name: &[u8])
+pub(crate) fn extend(text: &mut [u8], len: usize, name: &[u8])
     requires { ⌜ len + length (now name) < length (now text) ⌝ }
     ensures { λ _. ⌜ now (text .exit) ≡ grown (now (text .entry)) len (now (name .entry)) ⌝ }
 {
@@ -18,7 +18,7 @@ pub fn extend(text: &mut [u8], len: usize, name: &[u8])
 }
 
 // Zeros from k on.
-pub fn blank(text: &mut [u8], k: usize)
+pub(crate) fn blank(text: &mut [u8], k: usize)
     requires { ⌜ k ≤ length (now text) ⌝ }
     ensures { λ _. ⌜ now (text .exit) ≡ trimmed (now (text .entry)) k ⌝ }
 {
@@ -26,7 +26,7 @@ pub fn blank(text: &mut [u8], k: usize)
 }
 
 // The place of the last slash, or 0.
-pub fn last_slash(text: &[u8]) -> usize
+pub(crate) fn last_slash(text: &[u8]) -> usize
     ensures { λ r. ⌜ r ≡ last-slash (now (text .entry)) 0 0 ⌝ }
 {
     let mut at = 0;
@@ -39,7 +39,7 @@ pub fn last_slash(text: &[u8]) -> usize
 }
 
 // What stands behind the last slash.
-pub fn last_part(text: &[u8]) -> &[u8]
+pub(crate) fn last_part(text: &[u8]) -> &[u8]
     ensures { λ r. ⌜ now r ≡ last-part (now (text .entry)) ⌝ }
 {
     let k = last_slash(text);
@@ -50,7 +50,7 @@ pub fn last_part(text: &[u8]) -> &[u8]
 }
 
 // Writes one text over the front of another.
-pub fn copy(to: &mut [u8], from: &[u8])
+pub(crate) fn copy(to: &mut [u8], from: &[u8])
     requires { ⌜ length (now from) ≤ length (now to) ⌝ }
     ensures { λ _. ⌜ now (to .exit) ≡ now (from .entry) ++ drop (length (now (from .entry))) (now (to .entry)) ⌝ }
 {
@@ -65,7 +65,7 @@ fn key_of(b: u8) -> u8
 }
 
 // How two texts stand in order where a slash is the lowest byte.
-pub fn order(t: &[u8], u: &[u8]) -> Ordering
+pub(crate) fn order(t: &[u8], u: &[u8]) -> Ordering
     ensures { λ r. ⌜ r ≡ keyed (now (t .entry)) (now (u .entry)) ⌝ }
 {
     let mut k = 0;

@@ -16,7 +16,7 @@ use crate::path::Path;
 use crate::refusal::Refusal;
 
 impl Wide {
-    pub fn root() -> Wide
+    pub(crate) fn root() -> Wide
         ensures value { λ r. ⌜ wide-names r ≡ [] ⌝ }
         ensures len { λ r. ⌜ r .len ≡ 0 ⌝ }
     {
@@ -27,7 +27,7 @@ impl Wide {
         }
     }
 
-    pub fn of(path: &Path) -> Wide
+    pub(crate) fn of(path: &Path) -> Wide
         ensures value { λ r. ⌜ wide-names r ≡ names (now (path .entry)) ⌝ }
         ensures len { λ r. ⌜ r .len ≤ 64 ⌝ }
     {
@@ -65,7 +65,7 @@ impl Wide {
     }
 
     // One part of a text.
-    pub fn walk(&mut self, part: &[u8])
+    pub(crate) fn walk(&mut self, part: &[u8])
         requires plain { ⌜ plain (now part) ≡ true ⌝ }
         requires room { ⌜ now self .len + length (now part) < 136 ⌝ }
         ensures after { λ _. ⌜ wide-names (now (self .exit)) ≡ walk (wide-names (now (self .entry))) (now (part .entry)) ⌝ }
@@ -79,7 +79,7 @@ impl Wide {
     }
 
     // Puts the path into the place that the caller lends, if it keeps the limits.
-    pub fn narrow(&self, path: &mut Path) -> Result<(), Refusal>
+    pub(crate) fn narrow(&self, path: &mut Path) -> Result<(), Refusal>
         ensures value { λ r. ⌜ numbered r ≡ replied (limited (wide-names (now (self .entry)))) ⌝ }
         ensures after { λ _. ⌜ names (now (path .exit)) ≡ placed (limited (wide-names (now (self .entry)))) (names (now (path .entry))) ⌝ }
     {
