@@ -12,4 +12,4 @@ pub returns : goal.returns
 returns g t c =
     let look = g.S.Scanner.classified c.args.scanner.now in
     let p = names c.args.path.now in
-    c.beneath.ensures ∙ sym (not_followed_below look p _ _ (omega (arith, c.depth.ensures, c.if-depth-eq0.false)) c.parent-parent.ensures c.not-followed-above.ensures)
+    c.beneath.ensures ∙ sym (not_followed_below look p _ _ (omega (arith, c.depth.ensures, c.if-depth-eq0.false)) c.parent-parent.ensures c.not_followed-above.ensures)

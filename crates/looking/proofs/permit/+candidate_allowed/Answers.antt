@@ -19,4 +19,4 @@ returns g t c =
     let verdict = g.F.Filterer.verdict c.args.filterer.now in
     let root = names c.args.root.now in
     let p = names c.args.path.now in
-    c.permitted.ensures ∙ sym (allowed_below verdict root p _ _ c.if-eq.ensures (omega (arith, c.depth.ensures, c.if-depth-eq0.false)) c.parent-parent.ensures c.candidate-allowed-above.ensures)
+    c.permitted.ensures ∙ sym (allowed_below verdict root p _ _ c.if-eq.ensures (omega (arith, c.depth.ensures, c.if-depth-eq0.false)) c.parent-parent.ensures c.candidate_allowed-above.ensures)

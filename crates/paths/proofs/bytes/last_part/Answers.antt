@@ -6,6 +6,6 @@ use Rattle.paths.proofs.bytes.last_part.Goals as goal
 
 pub returns : goal.returns
 returns c =
-    let e = c.last-slash-k.ensures in
+    let e = c.last_slash-k.ensures in
     let t = lt-ltb (last_slash c.args.text.now 0 0) (length c.args.text.now) (omega arith) in
-    take_rest c.args.text.now (c.last-slash-k.result + 1) ∙ (ap (λ k. drop (k + 1) c.args.text.now) e ∙ sym (cond-true (ltb (last_slash c.args.text.now 0 0) (length c.args.text.now)) _ _ t))
+    take_rest c.args.text.now (c.last_slash-k.result + 1) ∙ (ap (λ k. drop (k + 1) c.args.text.now) e ∙ sym (cond-true (ltb (last_slash c.args.text.now 0 0) (length c.args.text.now)) _ _ t))

@@ -16,22 +16,22 @@ loop-part-init c =
 pub walk-requires : goal.walk-requires
 walk-requires c =
     let f = c.in-Some.ensures in
-    let p = part_next c.loop-part.cursor.text.now c.args.text.now c.loop-part.cursor.at c.in-Some.part.place c.next-part.new.self.at c.in-Some.part.name.now c.loop-part.invariant.3 f.value f.after f.rest in
-    let s : plains (c.in-Some.part.name.now ∷ parts_from c.args.text.now c.next-part.new.self.at) ≡ true = sym (ap plains p.0) ∙ c.loop-part.invariant.1 in
+    let p = part_next c.loop-part.cursor.text.now c.args.text.now c.loop-part.cursor.at c.in-Some.part.place c.next_part.new.self.at c.in-Some.part.name.now c.loop-part.invariant.3 f.value f.after f.rest in
+    let s : plains (c.in-Some.part.name.now ∷ parts_from c.args.text.now c.next_part.new.self.at) ≡ true = sym (ap plains p.0) ∙ c.loop-part.invariant.1 in
     record { plain = (and_parts (plain c.in-Some.part.name.now) _ s).0; room = omega (arith, p.2, c.loop-part.invariant.2, c.requires.short) }
 
 pub loop-part-smaller : goal.loop-part-smaller
 loop-part-smaller c =
     let f = c.in-Some.ensures in
-    let p = part_next c.loop-part.cursor.text.now c.args.text.now c.loop-part.cursor.at c.in-Some.part.place c.next-part.new.self.at c.in-Some.part.name.now c.loop-part.invariant.3 f.value f.after f.rest in
+    let p = part_next c.loop-part.cursor.text.now c.args.text.now c.loop-part.cursor.at c.in-Some.part.place c.next_part.new.self.at c.in-Some.part.name.now c.loop-part.invariant.3 f.value f.after f.rest in
     omega (arith, p.1, p.2)
 
 pub loop-part-preserved : goal.loop-part-preserved
 loop-part-preserved c =
     let f = c.in-Some.ensures in
-    let p = part_next c.loop-part.cursor.text.now c.args.text.now c.loop-part.cursor.at c.in-Some.part.place c.next-part.new.self.at c.in-Some.part.name.now c.loop-part.invariant.3 f.value f.after f.rest in
-    let s : plains (c.in-Some.part.name.now ∷ parts_from c.args.text.now c.next-part.new.self.at) ≡ true = sym (ap plains p.0) ∙ c.loop-part.invariant.1 in
+    let p = part_next c.loop-part.cursor.text.now c.args.text.now c.loop-part.cursor.at c.in-Some.part.place c.next_part.new.self.at c.in-Some.part.name.now c.loop-part.invariant.3 f.value f.after f.rest in
+    let s : plains (c.in-Some.part.name.now ∷ parts_from c.args.text.now c.next_part.new.self.at) ≡ true = sym (ap plains p.0) ∙ c.loop-part.invariant.1 in
     let w = c.walk.ensures.after in
-    let a = ap (λ x. walked x (parts_from c.args.text.now c.next-part.new.self.at)) w in
+    let a = ap (λ x. walked x (parts_from c.args.text.now c.next_part.new.self.at)) w in
     let b = sym (ap (walked (wide_names c.loop-part.wide)) p.0) ∙ c.loop-part.invariant.0 in
     (a ∙ b, (and_parts (plain c.in-Some.part.name.now) _ s).1, omega (arith, p.1, c.loop-part.invariant.2, c.walk.ensures.len), f.same ∙ c.loop-part.invariant.3)

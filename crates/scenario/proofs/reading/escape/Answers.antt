@@ -9,5 +9,5 @@ returns c =
     let e = escaped_at word (search rules) in
     let t = take_rest word 2 in
     let n = length-drop 2 word in
-    let b = c.in-ok-byte.ensures in
+    let b = c.in_ok-byte.ensures in
     record { value = grind arith; within = grind arith }

@@ -4,10 +4,10 @@ use Rattle.scenario.specs.Escapes.{read}
 use Rattle.scenario.proofs.Fronts.{some_before}
 use Rattle.scenario.proofs.reading.is_text.Goals as goal
 
-pub returns-in-default-front : goal.returns-in-default-front
-returns-in-default-front c =
+pub returns-in_default-front : goal.returns-in_default-front
+returns-in_default-front c =
     let f = first_rest c.loop-left.left.now 0 (search rules) in
-    let n = ap read f ∙ c.in-default-front.ensures.value in
+    let n = ap read f ∙ c.in_default-front.ensures.value in
     sym (ap is_some n) ∙ c.loop-left.invariant
 
 pub loop-left-preserved : goal.loop-left-preserved

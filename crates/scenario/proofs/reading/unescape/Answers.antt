@@ -7,14 +7,14 @@ use Rattle.scenario.proofs.reading.unescape.Goals as goal
 
 pub loop-left-init : goal.loop-left-init
 loop-left-init c =
-    let m = c.in-ok-text.ensures.made in
+    let m = c.in_ok-text.ensures.made in
     let n = following_none (read c.args.word.now) in
     (cc, omega arith)
 
 pub unreachable-requires : goal.unreachable-requires
 unreachable-requires c =
     let f = first_rest c.loop-left.left.now 0 (search rules) in
-    let n = ap read f ∙ c.in-default-front.ensures.value in
+    let n = ap read f ∙ c.in_default-front.ensures.value in
     let e = sym c.loop-left.invariant.0 ∙ ap (following (vec_items c.loop-left.text)) n in
     both_ways _ (ap is_some e) c.requires
 
@@ -25,6 +25,6 @@ loop-left-preserved c =
     let f = first_rest c.loop-left.left.now 0 (search rules) in
     let r = ap read f ∙ c.in-Some.ensures.value in
     let s = ap (following text) r ∙ following_more text next.byte (read next.rest.now) in
-    let p = c.push-reserved.ensures.items in
+    let p = c.push_reserved.ensures.items in
     let v = c.loop-left.invariant.0 in
     (cc, search rules)

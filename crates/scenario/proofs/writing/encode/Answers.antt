@@ -10,7 +10,7 @@ returns-in-empty c =
     let a = c.push.ensures.ascii in
     record { after = grind arith; laws = (comes_back, one_word) }
 
-pub returns-in-default : goal.returns-in-default
-returns-in-default c =
+pub returns-in_default : goal.returns-in_default
+returns-in_default c =
     let e = encoded_some c.args.text.now (search rules) in
     record { after = grind arith; laws = (comes_back, one_word) }

@@ -3,18 +3,18 @@ use Rattle.std.proofs.lemmas.Result.{err_from_is_err_and}
 use Rattle.rules.specs.Adding.{enter_watched}
 use Rattle.acting.proofs.progress.Progress.enter_watched.Goals as goal
 
-pub returns-in-err-put-record : goal.returns-in-err-put-record
+pub returns-in_err-put_record : goal.returns-in_err-put_record
 unfolding enter_watched
-returns-in-err-put-record c = let p = err_from_is_err_and c.from-residual.result c.from-residual.ensures.1 in rw (← c.drop_failure.ensures, ← c.put-record.ensures, c.in-err-put-record.was, p.1) refl
+returns-in_err-put_record c = let p = err_from_is_err_and c.from_residual.result c.from_residual.ensures.1 in rw (← c.drop_failure.ensures, ← c.put_record.ensures, c.in_err-put_record.was, p.1) refl
 
-pub returns-in-err-put-logical : goal.returns-in-err-put-logical
+pub returns-in_err-put_logical : goal.returns-in_err-put_logical
 unfolding enter_watched
-returns-in-err-put-logical c = let p = err_from_is_err_and c.from-residual-in-err-put-logical.result c.from-residual-in-err-put-logical.ensures.1 in rw (← c.drop_failure.ensures, ← c.put-record.ensures, c.in-ok-put-record.was, ← c.put_logical.ensures, c.in-err-put-logical.was, p.1) refl
+returns-in_err-put_logical c = let p = err_from_is_err_and c.from_residual-in_err-put_logical.result c.from_residual-in_err-put_logical.ensures.1 in rw (← c.drop_failure.ensures, ← c.put_record.ensures, c.in_ok-put_record.was, ← c.put_logical.ensures, c.in_err-put_logical.was, p.1) refl
 
-pub returns-in-err-put-owner : goal.returns-in-err-put-owner
+pub returns-in_err-put_owner : goal.returns-in_err-put_owner
 unfolding enter_watched
-returns-in-err-put-owner c = let p = err_from_is_err_and c.from-residual-in-err-put-owner.result c.from-residual-in-err-put-owner.ensures.1 in rw (← c.drop_failure.ensures, ← c.put-record.ensures, c.in-ok-put-record.was, ← c.put_logical.ensures, c.in-ok-put-logical.was, ← c.put_owner.ensures, c.in-err-put-owner.was, p.1) refl
+returns-in_err-put_owner c = let p = err_from_is_err_and c.from_residual-in_err-put_owner.result c.from_residual-in_err-put_owner.ensures.1 in rw (← c.drop_failure.ensures, ← c.put_record.ensures, c.in_ok-put_record.was, ← c.put_logical.ensures, c.in_ok-put_logical.was, ← c.put_owner.ensures, c.in_err-put_owner.was, p.1) refl
 
 pub returns : goal.returns
 unfolding enter_watched
-returns c = rw (← c.drop_failure.ensures, ← c.put-record.ensures, c.in-ok-put-record.was, ← c.put_logical.ensures, c.in-ok-put-logical.was, ← c.put_owner.ensures, c.in-ok-put-owner.was) refl
+returns c = rw (← c.drop_failure.ensures, ← c.put_record.ensures, c.in_ok-put_record.was, ← c.put_logical.ensures, c.in_ok-put_logical.was, ← c.put_owner.ensures, c.in_ok-put_owner.was) refl

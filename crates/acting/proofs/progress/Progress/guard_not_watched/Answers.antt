@@ -3,14 +3,14 @@ use Rattle.std.proofs.lemmas.Result.{err_from_is_err_and}
 use Rattle.rules.specs.Guarding.{guard_not_watched}
 use Rattle.acting.proofs.progress.Progress.guard_not_watched.Goals as goal
 
-pub returns-in-err-put-retry-root : goal.returns-in-err-put-retry-root
+pub returns-in_err-put_retry_root : goal.returns-in_err-put_retry_root
 unfolding guard_not_watched
-returns-in-err-put-retry-root c = let p = err_from_is_err_and c.from-residual.result c.from-residual.ensures.1 in rw (← c.put_retry_root.ensures, c.in-err-put-retry-root.was, p.1) refl
+returns-in_err-put_retry_root c = let p = err_from_is_err_and c.from_residual.result c.from_residual.ensures.1 in rw (← c.put_retry_root.ensures, c.in_err-put_retry_root.was, p.1) refl
 
-pub returns-in-err-how : goal.returns-in-err-how
+pub returns-in_err-how : goal.returns-in_err-how
 unfolding guard_not_watched
-returns-in-err-how c = let p = err_from_is_err_and c.from-residual-in-err-how.result c.from-residual-in-err-how.ensures.1 in rw (← c.put_retry_root.ensures, c.in-ok-put-retry-root.was, c.not-watched-how.ensures, c.in-err-how.was, p.1) refl
+returns-in_err-how c = let p = err_from_is_err_and c.from_residual-in_err-how.result c.from_residual-in_err-how.ensures.1 in rw (← c.put_retry_root.ensures, c.in_ok-put_retry_root.was, c.not_watched-how.ensures, c.in_err-how.was, p.1) refl
 
 pub returns : goal.returns
 unfolding guard_not_watched
-returns c = rw (← c.put_retry_root.ensures, c.in-ok-put-retry-root.was, c.not-watched-how.ensures, c.in-ok-how.was, c.guard_failed.ensures) refl
+returns c = rw (← c.put_retry_root.ensures, c.in_ok-put_retry_root.was, c.not_watched-how.ensures, c.in_ok-how.was, c.guard_failed.ensures) refl

@@ -2,10 +2,10 @@ use Rattle.std.proofs.Common.{refl}
 use Rattle.rules.specs.Guarding.{join_guard}
 use Rattle.acting.proofs.progress.Progress.join_guard.Goals as goal
 
-pub returns-then-not-room-for-guard : goal.returns-then-not-room-for-guard
+pub returns-then-not-room_for_guard : goal.returns-then-not-room_for_guard
 unfolding join_guard
-returns-then-not-room-for-guard g c = rw (← c.if-not-room-for-guard.ensures) refl
+returns-then-not-room_for_guard g c = rw (← c.if-not-room_for_guard.ensures) refl
 
 pub returns : goal.returns
 unfolding join_guard
-returns g c = rw (← c.if-not-room-for-guard.ensures, c.install_guard.ensures) refl
+returns g c = rw (← c.if-not-room_for_guard.ensures, c.install_guard.ensures) refl

@@ -2,10 +2,10 @@ use Rattle.std.proofs.Common.{refl}
 use Rattle.rules.specs.Adding.{latch}
 use Rattle.acting.proofs.progress.Progress.latch.Goals as goal
 
-pub returns-then-is-reported : goal.returns-then-is-reported
+pub returns-then-is_reported : goal.returns-then-is_reported
 unfolding latch
-returns-then-is-reported c = rw (← c.set_latch.ensures, ← c.if-is-reported.ensures) refl
+returns-then-is_reported c = rw (← c.set_latch.ensures, ← c.if-is_reported.ensures) refl
 
 pub returns : goal.returns
 unfolding latch
-returns c = rw (← c.set_latch.ensures, ← c.if-is-reported.ensures, ← c.set_reported.ensures) ?
+returns c = rw (← c.set_latch.ensures, ← c.if-is_reported.ensures, ← c.set_reported.ensures) ?

@@ -3,22 +3,22 @@ use Rattle.std.proofs.lemmas.Result.{err_from_is_err_and}
 use Rattle.rules.specs.Adding.{not_watched}
 use Rattle.acting.proofs.progress.Progress.not_watched.Goals as goal
 
-pub returns-in-err-report : goal.returns-in-err-report
+pub returns-in_err-report : goal.returns-in_err-report
 unfolding not_watched
-returns-in-err-report c = let p = err_from_is_err_and c.from-residual.result c.from-residual.ensures.1 in rw (← c.if-is-path-not-found.ensures, ← c.add.ensures, c.report.ensures, c.in-err-report.was, p.1) refl
+returns-in_err-report c = let p = err_from_is_err_and c.from_residual.result c.from_residual.ensures.1 in rw (← c.if-is_path_not_found.ensures, ← c.add.ensures, c.report.ensures, c.in_err-report.was, p.1) refl
 
-pub returns-then-is-path-not-found : goal.returns-then-is-path-not-found
+pub returns-then-is_path_not_found : goal.returns-then-is_path_not_found
 unfolding not_watched
-returns-then-is-path-not-found c = rw (← c.if-is-path-not-found.ensures, ← c.add.ensures, c.report.ensures, c.in-ok-report.was) refl
+returns-then-is_path_not_found c = rw (← c.if-is_path_not_found.ensures, ← c.add.ensures, c.report.ensures, c.in_ok-report.was) refl
 
-pub returns-in-err-latch : goal.returns-in-err-latch
+pub returns-in_err-latch : goal.returns-in_err-latch
 unfolding not_watched
-returns-in-err-latch c = let p = err_from_is_err_and c.from-residual-in-err-latch.result c.from-residual-in-err-latch.ensures.1 in rw (← c.if-is-path-not-found.ensures, ← c.in-Some.ensures, c.latch.ensures, c.in-err-latch.was, p.1) refl
+returns-in_err-latch c = let p = err_from_is_err_and c.from_residual-in_err-latch.result c.from_residual-in_err-latch.ensures.1 in rw (← c.if-is_path_not_found.ensures, ← c.in-Some.ensures, c.latch.ensures, c.in_err-latch.was, p.1) refl
 
-pub returns-in-ok-latch : goal.returns-in-ok-latch
+pub returns-in_ok-latch : goal.returns-in_ok-latch
 unfolding not_watched
-returns-in-ok-latch c = rw (← c.if-is-path-not-found.ensures, ← c.in-Some.ensures, c.latch.ensures, c.in-ok-latch.was) refl
+returns-in_ok-latch c = rw (← c.if-is_path_not_found.ensures, ← c.in-Some.ensures, c.latch.ensures, c.in_ok-latch.was) refl
 
 pub returns-in-None : goal.returns-in-None
 unfolding not_watched
-returns-in-None c = rw (← c.if-is-path-not-found.ensures, ← c.in-None.ensures, c.fail.ensures) refl
+returns-in-None c = rw (← c.if-is_path_not_found.ensures, ← c.in-None.ensures, c.fail.ensures) refl

@@ -3,10 +3,10 @@ use Rattle.std.proofs.lemmas.Result.{err_from_is_err_and}
 use Rattle.rules.specs.Guarding.{retry_root_at}
 use Rattle.acting.proofs.progress.Progress.retry_root_at.Goals as goal
 
-pub returns-in-err-report : goal.returns-in-err-report
+pub returns-in_err-report : goal.returns-in_err-report
 unfolding retry_root_at
-returns-in-err-report c = let p = err_from_is_err_and c.from-residual.result c.from-residual.ensures.1 in rw (← c.scan.ensures, c.report.ensures, c.in-err-report.was, p.1) refl
+returns-in_err-report c = let p = err_from_is_err_and c.from_residual.result c.from_residual.ensures.1 in rw (← c.scan.ensures, c.report.ensures, c.in_err-report.was, p.1) refl
 
 pub returns : goal.returns
 unfolding retry_root_at
-returns c = rw (← c.scan.ensures, c.report.ensures, c.in-ok-report.was, ← c.put_retry_root.ensures) refl
+returns c = rw (← c.scan.ensures, c.report.ensures, c.in_ok-report.was, ← c.put_retry_root.ensures) refl

@@ -12,4 +12,4 @@ unfolding same_identity before_identity
 returns c =
     let x = identity c.args.self.now in
     let y = identity c.args.other.now in
-    c.then.ensures ∙ (ap₂ ordering_then c.compare-kinds-kinds.ensures c.compare.ensures ∙ sym (ranked_pair (same_kind x.kind y.kind) (before_kind x.kind y.kind) (same_path x.path y.path) (before_path x.path y.path)))
+    c.then.ensures ∙ (ap₂ ordering_then c.compare_kinds-kinds.ensures c.compare.ensures ∙ sym (ranked_pair (same_kind x.kind y.kind) (before_kind x.kind y.kind) (same_path x.path y.path) (before_path x.path y.path)))

@@ -12,4 +12,4 @@ unfolding same_root before_root
 returns c =
     let x = root c.args.self.now in
     let y = root c.args.other.now in
-    c.then.ensures ∙ (ap₂ ordering_then c.compare-paths.ensures c.compare-marks.ensures ∙ sym (ranked_pair (same_path x.path y.path) (before_path x.path y.path) (same_mark x.recursive y.recursive) (before_mark x.recursive y.recursive)))
+    c.then.ensures ∙ (ap₂ ordering_then c.compare-paths.ensures c.compare_marks.ensures ∙ sym (ranked_pair (same_path x.path y.path) (before_path x.path y.path) (same_mark x.recursive y.recursive) (before_mark x.recursive y.recursive)))

@@ -5,18 +5,18 @@ use Rattle.paths.specs.Names.{named}
 use Rattle.paths.specs.Model.{spelling}
 use Rattle.paths.proofs.name.Name.new.Goals as goal
 
-pub invariant-of-result : goal.invariant-of-result
+pub invariant_of-result : goal.invariant_of-result
 unfolding spelling
-invariant-of-result c =
+invariant_of-result c =
     let t : take (length c.args.bytes.now) c.copy.new.to ≡ c.args.bytes.now = ap (take (length c.args.bytes.now)) c.copy.ensures ∙ take_at c.args.bytes.now _ (length c.args.bytes.now) refl in
-    let a = c.if-not-is-plain.ensures in
-    let b = c.if-is-dots.ensures in
+    let a = c.if-not-is_plain.ensures in
+    let b = c.if-is_dots.ensures in
     ((omega arith, ap named t ∙ (grind (arith, nat_tests))), tt)
 
 pub returns : goal.returns
 unfolding spelling
 returns c =
     let t : take (length c.args.bytes.now) c.copy.new.to ≡ c.args.bytes.now = ap (take (length c.args.bytes.now)) c.copy.ensures ∙ take_at c.args.bytes.now _ (length c.args.bytes.now) refl in
-    let a = c.if-not-is-plain.ensures in
-    let b = c.if-is-dots.ensures in
+    let a = c.if-not-is_plain.ensures in
+    let b = c.if-is_dots.ensures in
     grind (arith, nat_tests)

@@ -21,9 +21,9 @@ returns-then-self-ge8 c =
     ]) in
     record { value = sym (ap replied e); after = sym (ap (λ x. placed x (names c.args.child.now)) e) }
 
-pub invariant-of-child : goal.invariant-of-child
+pub invariant_of-child : goal.invariant_of-child
 unfolding names spelling
-invariant-of-child c =
+invariant_of-child c =
     let b = c.bytes-bytes.ensures in
     let m : named c.bytes-bytes.result.now ≡ true = ap named b ∙ c.args.name.now.ok.1 in
     let lt : c.args.self.now.len + length c.bytes-bytes.result.now < 64 = omega arith in

@@ -8,22 +8,22 @@ pub blank-requires : goal.blank-requires
 unfolding names spelling
 blank-requires c =
     let d : 0 < c.args.self.now.depth = omega arith in
-    slash_within 64 _ c.args.self.now.len _ _ _ c.args.self.now.ok d (c.last-slash-k.ensures ∙ ap (λ i. last_slash (take i c.args.self.now.text) 0 0) (omega arith))
+    slash_within 64 _ c.args.self.now.len _ _ _ c.args.self.now.ok d (c.last_slash-k.ensures ∙ ap (λ i. last_slash (take i c.args.self.now.text) 0 0) (omega arith))
 
-pub invariant-of-result : goal.invariant-of-result
+pub invariant_of-result : goal.invariant_of-result
 unfolding names spelling
-invariant-of-result c =
+invariant_of-result c =
     let d : 0 < c.args.self.now.depth = omega arith in
-    let f : c.last-slash-k.result ≡ last_slash (take c.args.self.now.len c.args.self.now.text) 0 0 = c.last-slash-k.ensures ∙ ap (λ i. last_slash (take i c.args.self.now.text) 0 0) (omega arith) in
+    let f : c.last_slash-k.result ≡ last_slash (take c.args.self.now.len c.args.self.now.text) 0 0 = c.last_slash-k.ensures ∙ ap (λ i. last_slash (take i c.args.self.now.text) 0 0) (omega arith) in
     let w = c.args.self.now.shallow in
-    ((parent_sealed 64 c.args.self.now.text c.blank.new.text c.args.self.now.len c.args.self.now.depth c.last-slash-k.result c.args.self.now.ok c.blank.ensures d f).1, (omega arith, tt))
+    ((parent_sealed 64 c.args.self.now.text c.blank.new.text c.args.self.now.len c.args.self.now.depth c.last_slash-k.result c.args.self.now.ok c.blank.ensures d f).1, (omega arith, tt))
 
 pub returns : goal.returns
 unfolding names spelling
 returns c =
     let d : 0 < c.args.self.now.depth = omega arith in
-    let f : c.last-slash-k.result ≡ last_slash (take c.args.self.now.len c.args.self.now.text) 0 0 = c.last-slash-k.ensures ∙ ap (λ i. last_slash (take i c.args.self.now.text) 0 0) (omega arith) in
-    (parent_sealed 64 c.args.self.now.text c.blank.new.text c.args.self.now.len c.args.self.now.depth c.last-slash-k.result c.args.self.now.ok c.blank.ensures d f).0
+    let f : c.last_slash-k.result ≡ last_slash (take c.args.self.now.len c.args.self.now.text) 0 0 = c.last_slash-k.ensures ∙ ap (λ i. last_slash (take i c.args.self.now.text) 0 0) (omega arith) in
+    (parent_sealed 64 c.args.self.now.text c.blank.new.text c.args.self.now.len c.args.self.now.depth c.last_slash-k.result c.args.self.now.ok c.blank.ensures d f).0
 
 pub returns-then-self-eq0 : goal.returns-then-self-eq0
 unfolding names

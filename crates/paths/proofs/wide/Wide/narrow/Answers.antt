@@ -4,9 +4,9 @@ use Rattle.paths.proofs.Renders.{narrow_copied}
 use Rattle.paths.proofs.Limits.{limited_ok}
 use Rattle.paths.proofs.wide.Wide.narrow.Goals as goal
 
-pub invariant-of-path : goal.invariant-of-path
+pub invariant_of-path : goal.invariant_of-path
 unfolding names wide_names
-invariant-of-path c = ((narrow_copied 64 136 c.args.self.now.text c.copy.new.to c.args.self.now.len c.args.self.now.depth (lit≤ tt) c.if-self-gt64.false c.args.self.now.ok c.copy.ensures).1, (c.if-self-gt8.false, tt))
+invariant_of-path c = ((narrow_copied 64 136 c.args.self.now.text c.copy.new.to c.args.self.now.len c.args.self.now.depth (lit≤ tt) c.if-self-gt64.false c.args.self.now.ok c.copy.ensures).1, (c.if-self-gt8.false, tt))
 
 pub returns : goal.returns
 unfolding names wide_names

@@ -9,24 +9,24 @@ pub blank-requires : goal.blank-requires
 unfolding names wide_names
 blank-requires c =
     let d : 0 < c.args.self.now.depth = omega arith in
-    let f : c.last-slash-k.result ≡ last_slash (take c.args.self.now.len c.args.self.now.text) 0 0 = c.last-slash-k.ensures ∙ ap (λ i. last_slash (take i c.args.self.now.text) 0 0) (sub-zero _) in
+    let f : c.last_slash-k.result ≡ last_slash (take c.args.self.now.len c.args.self.now.text) 0 0 = c.last_slash-k.ensures ∙ ap (λ i. last_slash (take i c.args.self.now.text) 0 0) (sub-zero _) in
     slash_within 136 _ c.args.self.now.len _ _ _ c.args.self.now.ok d f
 
-pub invariant-of-self : goal.invariant-of-self
+pub invariant_of-self : goal.invariant_of-self
 unfolding names wide_names
-invariant-of-self c =
+invariant_of-self c =
     let d : 0 < c.args.self.now.depth = omega arith in
-    let f : c.last-slash-k.result ≡ last_slash (take c.args.self.now.len c.args.self.now.text) 0 0 = c.last-slash-k.ensures ∙ ap (λ i. last_slash (take i c.args.self.now.text) 0 0) (sub-zero _) in
-    ((parent_sealed 136 c.args.self.now.text c.blank.new.text c.args.self.now.len c.args.self.now.depth c.last-slash-k.result c.args.self.now.ok c.blank.ensures d f).1, tt)
+    let f : c.last_slash-k.result ≡ last_slash (take c.args.self.now.len c.args.self.now.text) 0 0 = c.last_slash-k.ensures ∙ ap (λ i. last_slash (take i c.args.self.now.text) 0 0) (sub-zero _) in
+    ((parent_sealed 136 c.args.self.now.text c.blank.new.text c.args.self.now.len c.args.self.now.depth c.last_slash-k.result c.args.self.now.ok c.blank.ensures d f).1, tt)
 
 pub returns : goal.returns
 unfolding names wide_names
 returns c =
     let d : 0 < c.args.self.now.depth = omega arith in
-    let f : c.last-slash-k.result ≡ last_slash (take c.args.self.now.len c.args.self.now.text) 0 0 = c.last-slash-k.ensures ∙ ap (λ i. last_slash (take i c.args.self.now.text) 0 0) (sub-zero _) in
+    let f : c.last_slash-k.result ≡ last_slash (take c.args.self.now.len c.args.self.now.text) 0 0 = c.last_slash-k.ensures ∙ ap (λ i. last_slash (take i c.args.self.now.text) 0 0) (sub-zero _) in
     record {
-      after = (parent_sealed 136 c.args.self.now.text c.blank.new.text c.args.self.now.len c.args.self.now.depth c.last-slash-k.result c.args.self.now.ok c.blank.ensures d f).0;
-      len = parent_shorter 136 c.args.self.now.text c.args.self.now.len c.args.self.now.depth c.last-slash-k.result _ c.args.self.now.ok d f;
+      after = (parent_sealed 136 c.args.self.now.text c.blank.new.text c.args.self.now.len c.args.self.now.depth c.last_slash-k.result c.args.self.now.ok c.blank.ensures d f).0;
+      len = parent_shorter 136 c.args.self.now.text c.args.self.now.len c.args.self.now.depth c.last_slash-k.result _ c.args.self.now.ok d f;
     }
 
 pub returns-then-self-eq0 : goal.returns-then-self-eq0

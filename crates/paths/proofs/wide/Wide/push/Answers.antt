@@ -3,16 +3,16 @@ use Rattle.paths.proofs.Renders.{child_sealed, depth_below}
 use Rattle.paths.proofs.wide.Wide.push.Goals as goal
 use Rattle.paths.specs.Model.{wide_names, names}
 
-pub overflow-add-self-3 : goal.overflow-add-self-3
+pub overflow_add-self-3 : goal.overflow_add-self-3
 unfolding names wide_names
-overflow-add-self-3 c =
+overflow_add-self-3 c =
     let d = depth_below (wide_names c.args.self.now) in
     let ok = c.args.self.now.ok in
     omega arith
 
-pub invariant-of-self : goal.invariant-of-self
+pub invariant_of-self : goal.invariant_of-self
 unfolding names wide_names
-invariant-of-self c =
+invariant_of-self c =
     ((child_sealed 136 c.args.self.now.text c.extend.new.text c.args.self.now.len c.args.self.now.depth c.args.name.now c.args.self.now.ok c.extend.ensures c.requires.named c.requires.room).1, tt)
 
 pub returns : goal.returns

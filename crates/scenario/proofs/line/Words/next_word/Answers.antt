@@ -9,5 +9,5 @@ returns c =
     let line = c.args.self.now.line.now in
     let at = c.args.self.now.at in
     let e = left_next line at (omega arith) in
-    let n = length-between line at c.word-end-end.result c.word-end-end.ensures.within in
+    let n = length-between line at c.word_end-end.result c.word_end-end.ensures.within in
     record { value = grind (arith, nat_tests); after = grind (arith, nat_tests) }

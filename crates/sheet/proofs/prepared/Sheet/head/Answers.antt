@@ -11,24 +11,24 @@ use Rattle.sheet.specs.Model.{rows, spelt}
 use Rattle.sheet.proofs.Settings.{same_rows}
 use Rattle.sheet.proofs.prepared.Sheet.head.Goals as goal
 
-pub returns-in-err-insert : goal.returns-in-err-insert
-returns-in-err-insert c =
-    let p = err_from_is_err_and c.from-residual.result c.from-residual.ensures.1 in
+pub returns-in_err-insert : goal.returns-in_err-insert
+returns-in_err-insert c =
+    let p = err_from_is_err_and c.from_residual.result c.from_residual.ensures.1 in
     let e = entered_seen names (λ h. h) same_path c.args.path.now before_path 256 c.args.heading (vec_items c.args.self.now.listings.items) in
-    let v = c.in-err-insert.ensures.value ∙ e.0 in
+    let v = c.in_err-insert.ensures.value ∙ e.0 in
     let i = (rows c.args.self.now).items in
     record {
       value = p.1 ∙ (ap Err p.2 ∙ v);
-      after = same_rows refl refl (ap (map (viewed names (λ h. h))) c.in-err-insert.ensures.items ∙ e.1) (ap (λ r. unless_refused r (others (names c.args.path.now) i) i) v);
+      after = same_rows refl refl (ap (map (viewed names (λ h. h))) c.in_err-insert.ensures.items ∙ e.1) (ap (λ r. unless_refused r (others (names c.args.path.now) i) i) v);
     }
 
 pub returns : goal.returns
 returns c =
     let e = entered_seen names (λ h. h) same_path c.args.path.now before_path 256 c.args.heading (vec_items c.args.self.now.listings.items) in
-    let v = c.in-ok-insert.ensures.value ∙ e.0 in
+    let v = c.in_ok-insert.ensures.value ∙ e.0 in
     let i = (rows c.args.self.now).items in
     let k = map_kept (viewed names spelt) (λ x. not (same_path x.key (names c.args.path.now))) (vec_items c.args.self.now.items.items) in
     record {
       value = v;
-      after = same_rows refl refl (ap (map (viewed names (λ h. h))) c.in-ok-insert.ensures.items ∙ e.1) (ap (map (viewed names spelt)) c.retain.ensures ∙ (k ∙ ap (λ r. unless_refused r (others (names c.args.path.now) i) i) v));
+      after = same_rows refl refl (ap (map (viewed names (λ h. h))) c.in_ok-insert.ensures.items ∙ e.1) (ap (map (viewed names spelt)) c.retain.ensures ∙ (k ∙ ap (λ r. unless_refused r (others (names c.args.path.now) i) i) v));
     }

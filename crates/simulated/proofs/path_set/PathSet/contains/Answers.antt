@@ -6,4 +6,4 @@ use Rattle.simulated.specs.Model.{path_of}
 use Rattle.simulated.proofs.path_set.PathSet.contains.Goals as goal
 
 pub returns : goal.returns
-returns g c = c.contains-key.ensures ∙ any_map path_of (λ x. same_path x (names c.args.path.now)) (vec_items c.args.self.now.table.items)
+returns g c = c.contains_key.ensures ∙ any_map path_of (λ x. same_path x (names c.args.path.now)) (vec_items c.args.self.now.table.items)

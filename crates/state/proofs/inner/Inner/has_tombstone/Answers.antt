@@ -8,4 +8,4 @@ use Rattle.state.proofs.inner.Inner.has_tombstone.Goals as goal
 
 pub returns : goal.returns
 unfolding model has_tombstone
-returns c = c.contains-key.ensures ∙ any_seen names (λ x. x) same_path c.args.path.now (vec_items c.args.self.now.tombstones.items)
+returns c = c.contains_key.ensures ∙ any_seen names (λ x. x) same_path c.args.path.now (vec_items c.args.self.now.tombstones.items)

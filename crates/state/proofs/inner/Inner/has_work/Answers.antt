@@ -3,9 +3,9 @@ use Rattle.state.specs.Model.{model}
 use Rattle.std.proofs.Common.{arith}
 use Rattle.state.proofs.inner.Inner.has_work.Goals as goal
 
-pub returns-then-not-nothing-waits : goal.returns-then-not-nothing-waits
+pub returns-then-not-nothing_waits : goal.returns-then-not-nothing_waits
 unfolding model has_work
-returns-then-not-nothing-waits c = let e = c.nothing_waits.ensures in grind arith
+returns-then-not-nothing_waits c = let e = c.nothing_waits.ensures in grind arith
 
 pub returns-in-Traversing : goal.returns-in-Traversing
 unfolding model has_work

@@ -8,4 +8,4 @@ use Rattle.state.proofs.inner.Inner.is_configured.Goals as goal
 
 pub returns : goal.returns
 unfolding model is_configured
-returns c = c.contains-key.ensures ∙ any_seen root (λ x. x) same_root c.args.root.now (vec_items c.args.self.now.roots.items)
+returns c = c.contains_key.ensures ∙ any_seen root (λ x. x) same_root c.args.root.now (vec_items c.args.self.now.roots.items)

@@ -9,4 +9,4 @@ use Rattle.state.proofs.inner.Inner.is_logical.Goals as goal
 
 pub returns : goal.returns
 unfolding model is_logical
-returns c = c.contains-key.ensures ∙ any_seen names identity same_path c.args.path.now (vec_items c.args.self.now.logical.items)
+returns c = c.contains_key.ensures ∙ any_seen names identity same_path c.args.path.now (vec_items c.args.self.now.logical.items)

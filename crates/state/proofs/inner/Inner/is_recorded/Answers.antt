@@ -9,4 +9,4 @@ use Rattle.state.proofs.inner.Inner.is_recorded.Goals as goal
 
 pub returns : goal.returns
 unfolding model is_recorded
-returns c = c.contains-key.ensures ∙ any_seen identity names same_identity c.args.identity.now (vec_items c.args.self.now.records.items)
+returns c = c.contains_key.ensures ∙ any_seen identity names same_identity c.args.identity.now (vec_items c.args.self.now.records.items)

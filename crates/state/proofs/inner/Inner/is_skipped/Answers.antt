@@ -8,4 +8,4 @@ use Rattle.state.proofs.inner.Inner.is_skipped.Goals as goal
 
 pub returns : goal.returns
 unfolding model is_skipped
-returns c = c.contains-key.ensures ∙ any_seen names (λ x. x) same_path c.args.path.now (vec_items c.args.self.now.skipped.items)
+returns c = c.contains_key.ensures ∙ any_seen names (λ x. x) same_path c.args.path.now (vec_items c.args.self.now.skipped.items)

@@ -17,13 +17,13 @@ returns-in-Some c =
     let xs = (vec_items c.args.self.now.guards.items) in
     let k = c.args.path.now in
     let f : Guard → Guard = (λ g. record { identity = g.identity; attached = false }) in
-    let e = (c.get-mut.follows.holds (f c.in-Some.guard.now)).0 in
+    let e = (c.get_mut.follows.holds (f c.in-Some.guard.now)).0 in
     ap (λ ys. with_guards ys (model c.args.self.now)) (ap (map (viewed names guard)) (e ∙ lent_there (λ p q. same_path (names p) (names q)) k f xs c.in-Some.ensures.finds) ∙ revalued_seen names guard same_path k f detached (λ v. refl) xs)
 
-pub returns-in-default : goal.returns-in-default
+pub returns-in_default : goal.returns-in_default
 unfolding model loosen
-returns-in-default c =
+returns-in_default c =
     let xs = (vec_items c.args.self.now.guards.items) in
     let k = c.args.path.now in
     let f : Guard → Guard = (λ g. record { identity = g.identity; attached = false }) in
-    ap (λ ys. with_guards ys (model c.args.self.now)) (ap (λ t. map (viewed names guard) (vec_items t.items)) c.get-mut.follows.holds-at-none ∙ (ap (map (viewed names guard)) (lent_nowhere (λ p q. same_path (names p) (names q)) k f xs c.in-default.ensures.finds) ∙ revalued_seen names guard same_path k f detached (λ v. refl) xs))
+    ap (λ ys. with_guards ys (model c.args.self.now)) (ap (λ t. map (viewed names guard) (vec_items t.items)) c.get_mut.follows.holds-at-none ∙ (ap (map (viewed names guard)) (lent_nowhere (λ p q. same_path (names p) (names q)) k f xs c.in_default.ensures.finds) ∙ revalued_seen names guard same_path k f detached (λ v. refl) xs))

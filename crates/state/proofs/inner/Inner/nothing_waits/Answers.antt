@@ -6,22 +6,22 @@ use Rattle.std.proofs.Common.{vec_items, arith}
 use Rattle.state.proofs.Options.{empty_seen}
 use Rattle.state.proofs.inner.Inner.nothing_waits.Goals as goal
 
-pub returns-then-not-is-empty : goal.returns-then-not-is-empty
+pub returns-then-not-is_empty : goal.returns-then-not-is_empty
 unfolding model nothing_waits
-returns-then-not-is-empty c =
+returns-then-not-is_empty c =
     let a = empty_seen names (vec_items c.args.self.now.removals.items) in
     grind arith
 
-pub returns-then-not-is-empty-2 : goal.returns-then-not-is-empty-2
+pub returns-then-not-is_empty-2 : goal.returns-then-not-is_empty-2
 unfolding model nothing_waits
-returns-then-not-is-empty-2 c =
+returns-then-not-is_empty-2 c =
     let a = empty_seen names (vec_items c.args.self.now.removals.items) in
     let b = empty_seen share (vec_items c.args.self.now.owner_removals.items) in
     grind arith
 
-pub returns-then-not-is-empty-3 : goal.returns-then-not-is-empty-3
+pub returns-then-not-is_empty-3 : goal.returns-then-not-is_empty-3
 unfolding model nothing_waits
-returns-then-not-is-empty-3 c =
+returns-then-not-is_empty-3 c =
     let a = empty_seen names (vec_items c.args.self.now.removals.items) in
     let b = empty_seen share (vec_items c.args.self.now.owner_removals.items) in
     let d = empty_seen work (vec_items c.args.self.now.work.items) in

@@ -19,7 +19,7 @@ returns-in-Some c =
     let n = c.args.self.now.epoch in
     let e = entered_seen owned (λ n. n) same_owned k before_owned 128 n xs in
     let t = sym (entered_there (λ a b. same_owned (owned a) (owned b)) (λ a b. before_owned (owned a) (owned b)) 128 k n xs (held_there (λ a b. same_owned (owned a) (owned b)) k xs c.in-Some.ensures.finds)) in
-    ap₂ (λ r ys. edited r (with_owners ys (model c.args.self.now))) (ap (λ q. q.0) t ∙ e.0) (ap (map (viewed owned (λ n. n))) ((c.get-mut.follows.holds n).0 ∙ ap (λ q. q.1) t) ∙ e.1)
+    ap₂ (λ r ys. edited r (with_owners ys (model c.args.self.now))) (ap (λ q. q.0) t ∙ e.0) (ap (map (viewed owned (λ n. n))) ((c.get_mut.follows.holds n).0 ∙ ap (λ q. q.1) t) ∙ e.1)
 
 pub returns : goal.returns
 unfolding model put_owner
@@ -27,6 +27,6 @@ returns c =
     let s = model c.args.self.now in
     let k : Owned = (record { path = c.args.path.now; root = c.args.root.now }) in
     let n = c.args.self.now.epoch in
-    let e = entered_seen owned (λ n. n) same_owned k before_owned 128 n (vec_items c.get-mut.follows.lender-at-none.items) in
+    let e = entered_seen owned (λ n. n) same_owned k before_owned 128 n (vec_items c.get_mut.follows.lender-at-none.items) in
     ap₂ (λ r ys. edited r (with_owners ys s)) (c.insert.ensures.value ∙ e.0) (ap (map (viewed owned (λ n. n))) c.insert.ensures.items ∙ e.1)
-    ∙ ap (λ t. stored (λ ys. with_owners ys s) (entered same_owned before_owned 128 (owned k) n (map (viewed owned (λ n. n)) (vec_items t.items)))) c.get-mut.follows.holds-at-none
+    ∙ ap (λ t. stored (λ ys. with_owners ys s) (entered same_owned before_owned 128 (owned k) n (map (viewed owned (λ n. n)) (vec_items t.items)))) c.get_mut.follows.holds-at-none

@@ -8,7 +8,7 @@ use Rattle.tables.proofs.ascending.Table.get_mut.Goals as goal
 pub returns-in-Some : goal.returns-in-Some
 returns-in-Some g c =
     let h = hit (under g.K.Key.same c.args.key.now) c.deref.ensures.value c.in-Some.ensures.value in
-    let v = c.index-mut.ensures.value in (
+    let v = c.index_mut.ensures.value in (
       (refl, (λ w. (sym (h.same _ _ v), λ a. ap (ascending g.K.Key.before) (sym (h.same _ _ v)) ∙ ascending_revalued g.K.Key.before c.args.self.now.items.items a g.K.Key.same c.args.key.now (λ _. w))), refl),
       ap (option_map (λ e. e.value)) (sym (h.found _ v)),
     )

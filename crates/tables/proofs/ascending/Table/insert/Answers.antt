@@ -9,7 +9,7 @@ returns-in-Some g c =
     let xs = c.args.self.now.items.items in
     let h = hit (under g.K.Key.same c.args.key) c.deref.ensures.value c.in-Some.ensures.value in
     let e = sym (entered_there g.K.Key.same g.K.Key.before g.row.N c.args.key c.args.value xs h.some) in
-    let i = sym (h.same _ _ c.index-mut.ensures.value) ∙ ap (λ p. p.1) e in
+    let i = sym (h.same _ _ c.index_mut.ensures.value) ∙ ap (λ p. p.1) e in
     record {
       value = ap (λ p. p.0) e;
       items = i;
@@ -19,16 +19,16 @@ returns-in-Some g c =
 pub returns-then-len : goal.returns-then-len
 returns-then-len g c =
     let xs = c.args.self.now.items.items in
-    let m = missed (under g.K.Key.same c.args.key) c.deref.ensures.value c.in-default.ensures.value in
+    let m = missed (under g.K.Key.same c.args.key) c.deref.ensures.value c.in_default.ensures.value in
     let e = sym (entered_full g.K.Key.same g.K.Key.before g.row.N c.args.key c.args.value xs m.none (omega (arith, c.args.self.now.items.ok.0))) in
     record { value = ap (λ p. p.0) e; items = ap (λ p. p.1) e; ascends = λ a. a }
 
 pub returns : goal.returns
 returns g c =
     let xs = c.args.self.now.items.items in
-    let m = missed (under g.K.Key.same c.args.key) c.deref.ensures.value c.in-default.ensures.value in
+    let m = missed (under g.K.Key.same c.args.key) c.deref.ensures.value c.in_default.ensures.value in
     let e = sym (entered_new g.K.Key.same g.K.Key.before g.row.N c.args.key c.args.value xs m.none (omega (arith, c.args.self.now.items.ok.0))) in
-    let i = c.put-before.ensures.items ∙ ap (λ p. p.1) e in
+    let i = c.put_before.ensures.items ∙ ap (λ p. p.1) e in
     record {
       value = ap (λ p. p.0) e;
       items = i;
