@@ -3,7 +3,7 @@ use Rattle.std.proofs.Common.{◌≡◌, ℕ, ◌<◌, Bool, true, false, cond, 
 use Rattle.std.proofs.lemmas.Bool.{cases_Bool, cond-true, cond-false}
 use Rattle.paths.specs.Names.{Names, same_path, starts_with}
 use Rattle.paths.specs.Laws.{PartialOrder}
-use Rattle.paths.proofs.Walks.{same_path_true, same_path_same}
+use Rattle.paths.specs.Equal.{same_path_true, same_path_same}
 
 below_same : (p : Names) → starts_with p p ≡ true
 below_same [] = refl

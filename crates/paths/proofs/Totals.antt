@@ -7,7 +7,7 @@ use Rattle.paths.specs.Names.{Name, Names, same_path, starts_with}
 use Rattle.paths.specs.Order.{order_by, order_byte, order_name, order_path, outward}
 use Rattle.paths.specs.Laws.{TotalOrder, AboveFirst}
 use Rattle.paths.proofs.Spells.{outward_back, outward_append}
-use Rattle.paths.proofs.Walks.{same_path_true}
+use Rattle.paths.specs.Equal.{same_path_true}
 
 then_equal : (o p : Ordering) → ordering_then o p ≡ Equal → (o ≡ Equal) × (p ≡ Equal)
 then_equal Less p e = absurd (let z : ◌≡◌ {A = ℕ} 0 1 = cc in omega arith)

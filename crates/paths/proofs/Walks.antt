@@ -5,6 +5,7 @@ use Rattle.std.proofs.lemmas.Bool.{and_parts, and_from, eqb-true, eq-eqb, cases_
 use Rattle.std.proofs.lemmas.List.{take_at}
 use Rattle.paths.specs.Names.{Name, Names, same_name, same_path, starts_with, up, render, text}
 use Rattle.paths.specs.Bytes.{parse, Sound}
+use Rattle.paths.specs.Equal.{same_path_true, same_path_same, decides_same_path}
 use Rattle.paths.specs.Texts.{zeroless, below_root}
 
 pub starts_more : (p q : Names) → 0 < length p → starts_with p q ≡ cond (same_path p q) true (starts_with (up p) q)
@@ -14,37 +15,6 @@ starts_more (n ∷ p) q h = refl
 pub starts_root : (p q : Names) → length p ≡ 0 → starts_with p q ≡ same_path p q
 starts_root [] q h = refl
 starts_root (n ∷ p) q h = absurd (omega arith)
-
-same_name_true : (a b : List ℕ) → same_name a b ≡ true → a ≡ b
-same_name_true [] [] h = refl
-same_name_true [] (y ∷ b) h = absurd (let z : ◌≡◌ {A = ℕ} 0 1 = cc in omega arith)
-same_name_true (x ∷ a) [] h = absurd (let z : ◌≡◌ {A = ℕ} 0 1 = cc in omega arith)
-same_name_true (x ∷ a) (y ∷ b) h =
-    let k = and_parts (eqb x y) (same_name a b) h in
-    let e = eqb-true x y k.0 in
-    let f = same_name_true a b k.1 in
-    cc
-
-same_name_same : (a : List ℕ) → same_name a a ≡ true
-same_name_same [] = refl
-same_name_same (x ∷ a) = and_from (eqb x x) (same_name a a) (eq-eqb x x refl) (same_name_same a)
-
-pub same_path_true : (p q : Names) → same_path p q ≡ true → p ≡ q
-same_path_true [] [] h = refl
-same_path_true [] (m ∷ q) h = absurd (let z : ◌≡◌ {A = ℕ} 0 1 = cc in omega arith)
-same_path_true (n ∷ p) [] h = absurd (let z : ◌≡◌ {A = ℕ} 0 1 = cc in omega arith)
-same_path_true (n ∷ p) (m ∷ q) h =
-    let k = and_parts (same_name n m) (same_path p q) h in
-    let e = same_name_true n m k.0 in
-    let f = same_path_true p q k.1 in
-    cc
-
-pub same_path_same : (p : Names) → same_path p p ≡ true
-same_path_same [] = refl
-same_path_same (n ∷ p) = and_from (same_name n n) (same_path p p) (same_name_same n) (same_path_same p)
-
-pub decides_same_path : (p q : Names) → Decides (same_path p q) (p ≡ q)
-decides_same_path p q = (same_path_true p q, λ e. ap (same_path p) (sym e) ∙ same_path_same p)
 
 pub text_of : (size : ℕ) (text : List ℕ) (len depth : ℕ) → Sound size text len depth → take len text ≡ render (parse (take len text))
 text_of size text len depth s = ap (take len) s.0 ∙ take_at (render (parse (take len text))) _ len (sym s.1)

@@ -4,3 +4,4 @@ pub mod Texts
 pub mod Bytes
 pub mod Model
 pub mod Laws
+pub mod Equal

@@ -7,7 +7,9 @@ use Rattle.scenario.proofs.reading.unescape.Goals as goal
 
 pub loop-left-init : goal.loop-left-init
 loop-left-init c =
-    let m = c.in_ok-text.ensures.made in
+    let m = c.in_ok-text.ensures.items in
+    let e = c.in_ok-text.ensures.len in
+    let k = c.in_ok-text.ensures.capacity in
     let n = following_none (read c.args.word.now) in
     (cc, omega arith)
 

@@ -11,7 +11,7 @@ invariant_of-result c =
     let t : take (length c.args.bytes.now) c.copy.new.to ≡ c.args.bytes.now = ap (take (length c.args.bytes.now)) c.copy.ensures ∙ take_at c.args.bytes.now _ (length c.args.bytes.now) refl in
     let a = c.if-not-is_plain.ensures in
     let b = c.if-is_dots.ensures in
-    ((omega arith, ap named t ∙ (grind (arith, nat_tests))), tt)
+    record { ok = (omega arith, ap named t ∙ (grind (arith, nat_tests))) }
 
 pub returns : goal.returns
 unfolding spelling

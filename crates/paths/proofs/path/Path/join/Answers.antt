@@ -27,7 +27,7 @@ invariant_of-child c =
     let b = c.bytes-bytes.ensures in
     let m : named c.bytes-bytes.result.now ≡ true = ap named b ∙ c.args.name.now.ok.1 in
     let lt : c.args.self.now.len + length c.bytes-bytes.result.now < 64 = omega arith in
-    ((child_sealed 64 c.args.self.now.text c.extend.new.text c.args.self.now.len c.args.self.now.depth c.bytes-bytes.result.now c.args.self.now.ok c.extend.ensures m lt).1, (omega arith, tt))
+    record { ok = (child_sealed 64 c.args.self.now.text c.extend.new.text c.args.self.now.len c.args.self.now.depth c.bytes-bytes.result.now c.args.self.now.ok c.extend.ensures m lt).1; shallow = omega arith }
 
 pub returns : goal.returns
 unfolding names spelling

@@ -6,7 +6,7 @@ use Rattle.paths.proofs.wide.Wide.narrow.Goals as goal
 
 pub invariant_of-path : goal.invariant_of-path
 unfolding names wide_names
-invariant_of-path c = ((narrow_copied 64 136 c.args.self.now.text c.copy.new.to c.args.self.now.len c.args.self.now.depth (lit≤ tt) c.if-self-gt64.false c.args.self.now.ok c.copy.ensures).1, (c.if-self-gt8.false, tt))
+invariant_of-path c = record { ok = (narrow_copied 64 136 c.args.self.now.text c.copy.new.to c.args.self.now.len c.args.self.now.depth (lit≤ tt) c.if-self-gt64.false c.args.self.now.ok c.copy.ensures).1; shallow = c.if-self-gt8.false }
 
 pub returns : goal.returns
 unfolding names wide_names

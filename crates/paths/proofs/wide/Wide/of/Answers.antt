@@ -5,7 +5,7 @@ use Rattle.paths.proofs.wide.Wide.of.Goals as goal
 
 pub invariant_of-result : goal.invariant_of-result
 unfolding names wide_names
-invariant_of-result c = ((wide_copied 64 136 c.args.path.now.text c.copy.new.to c.args.path.now.len c.args.path.now.depth (lit≤ tt) c.args.path.now.ok c.copy.ensures).1, tt)
+invariant_of-result c = record { ok = (wide_copied 64 136 c.args.path.now.text c.copy.new.to c.args.path.now.len c.args.path.now.depth (lit≤ tt) c.args.path.now.ok c.copy.ensures).1 }
 
 pub returns : goal.returns
 unfolding names wide_names

@@ -17,7 +17,7 @@ unfolding names wide_names
 invariant_of-self c =
     let d : 0 < c.args.self.now.depth = omega arith in
     let f : c.last_slash-k.result ≡ last_slash (take c.args.self.now.len c.args.self.now.text) 0 0 = c.last_slash-k.ensures ∙ ap (λ i. last_slash (take i c.args.self.now.text) 0 0) (sub-zero _) in
-    ((parent_sealed 136 c.args.self.now.text c.blank.new.text c.args.self.now.len c.args.self.now.depth c.last_slash-k.result c.args.self.now.ok c.blank.ensures d f).1, tt)
+    record { ok = (parent_sealed 136 c.args.self.now.text c.blank.new.text c.args.self.now.len c.args.self.now.depth c.last_slash-k.result c.args.self.now.ok c.blank.ensures d f).1 }
 
 pub returns : goal.returns
 unfolding names wide_names

@@ -13,7 +13,7 @@ overflow_add-self-3 c =
 pub invariant_of-self : goal.invariant_of-self
 unfolding names wide_names
 invariant_of-self c =
-    ((child_sealed 136 c.args.self.now.text c.extend.new.text c.args.self.now.len c.args.self.now.depth c.args.name.now c.args.self.now.ok c.extend.ensures c.requires.named c.requires.room).1, tt)
+    record { ok = (child_sealed 136 c.args.self.now.text c.extend.new.text c.args.self.now.len c.args.self.now.depth c.args.name.now c.args.self.now.ok c.extend.ensures c.requires.named c.requires.room).1 }
 
 pub returns : goal.returns
 unfolding names wide_names
