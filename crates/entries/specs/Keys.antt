@@ -3,7 +3,7 @@ use Rattle.std.specs.Prelude.{◌≡◌, ℕ, Bool, true, false, refl}
 use Rattle.std.proofs.Common.{arith}
 use Rattle.paths.specs.Names.{same_path}
 use Rattle.paths.specs.Order.{before_path}
-use Rattle.paths.proofs.Walks.{same_path_same}
+use Rattle.paths.specs.Equal.{same_path_same}
 use Rattle.tables.specs.PathKeys.{path_apart, path_total, path_transitive}
 use Rattle.rules.specs.declared.identity_kind.IdentityKind.{IdentityKind}
 use Rattle.rules.specs.declared.identity_kind.IdentityKind.TheVariants.{Canonical, Lexical}

@@ -5,7 +5,7 @@ use Rattle.std.proofs.lemmas.Bool.{cases_Bool}
 use Rattle.std.proofs.lemmas.Bool.Decides.{same_from_decides}
 use Rattle.paths.specs.Names.{Names, same_path}
 use Rattle.paths.specs.Order.{before_path}
-use Rattle.paths.proofs.Walks.{same_path_true, same_path_same, decides_same_path}
+use Rattle.paths.specs.Equal.{same_path_true, same_path_same, decides_same_path}
 use Rattle.tables.specs.Lists.{any, placed}
 use Rattle.simulated.specs.Paths.{holds, joined, parted}
 

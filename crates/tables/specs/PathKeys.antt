@@ -7,7 +7,7 @@ use Rattle.std.proofs.lemmas.Bool.{cases_Bool, cond-true, cond-false}
 use Rattle.std.specs.Ordering.{is_lt, ordering_reverse}
 use Rattle.paths.specs.Names.{Names, same_path}
 use Rattle.paths.specs.Order.{order_path, before_path}
-use Rattle.paths.proofs.Walks.{same_path_true, same_path_same}
+use Rattle.paths.specs.Equal.{same_path_true, same_path_same}
 use Rattle.paths.proofs.Totals.{total_path}
 use Rattle.tables.specs.Order.{ranked}
 

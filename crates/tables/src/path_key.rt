@@ -2,7 +2,7 @@
 ghost use Rattle.paths.specs.Names.{same_path};
 ghost use Rattle.paths.specs.Order.{before_path};
 ghost use Rattle.paths.specs.Model.{names};
-ghost use Rattle.paths.proofs.Walks.{same_path_same};
+ghost use Rattle.paths.specs.Equal.{same_path_same};
 ghost use Rattle.tables.specs.PathKeys.{path_apart, path_total, path_transitive};
 
 use crate::keys::Key;
