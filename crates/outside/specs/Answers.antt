@@ -1,5 +1,5 @@
 -- What a scanner and a filterer answer.
-use Rattle.std.specs.Prelude.{ℕ, zero, suc, Bool, List, [], ◌∷◌, Some, None, Ok, Err, Option, Result}
+use Rattle.std.specs.Prelude.{ℕ, Bool, List, Ok, Err, Option, Result}
 use Rattle.std.specs.List.{slice_get}
 use Rattle.paths.specs.Names.{Name, Names}
 use Rattle.outside.specs.declared.cause.ScanCause.{ScanCause}

@@ -1,5 +1,5 @@
 -- What the values of the code stand for.
-use Rattle.std.specs.Prelude.{ℕ, Bool, cond, Some, None, Ok, Err, Option, Result}
+use Rattle.std.specs.Prelude.{Bool, cond, Some, None, Ok, Err, Option, Result}
 use Rattle.paths.specs.Names.{Names}
 use Rattle.paths.specs.Model.{names, spelling}
 use Rattle.outside.specs.declared.carried.Carried.{Carried}

@@ -1,5 +1,5 @@
 -- What a backend is asked, what it answers, and what an answer does to its book.
-use Rattle.std.specs.Prelude.{◌≡◌, Bool, true, false, cond, not, ◌&&◌, ◌||◌, Option}
+use Rattle.std.specs.Prelude.{◌≡◌, Bool, not, ◌&&◌, ◌||◌, Option}
 use Rattle.paths.specs.Names.{Names, same_path}
 use Rattle.outside.specs.declared.cause.BackendCause.{BackendCause}
 use Rattle.outside.specs.declared.cause.BackendCause.TheVariants.{PathNotFound, WatchNotFound, MaxFilesWatch, Io, Other}

@@ -1,4 +1,6 @@
 // What lies outside a recursor: the backend that it asks, the scanner and the filterer that it consults.
+#![tactic(auto)]
+
 pub mod backend;
 pub mod carried;
 pub mod cause;

@@ -1,9 +1,9 @@
 -- The innermost name stands behind the last slash.
-use Rattle.std.proofs.Common.{◌≡◌, ℕ, ◌+◌, ◌-◌, ◌<◌, ◌≤◌, Bool, true, false, cond, ltb, List, [], ◌∷◌, ◌++◌, length, take, drop, replicate, Some, None, sym, refl, ap, ◌∙◌, arith}
+use Rattle.std.proofs.Common.{◌≡◌, ℕ, ◌+◌, ◌<◌, ◌≤◌, true, ltb, [], ◌∷◌, ◌++◌, length, take, drop, Some, sym, ap, ◌∙◌, arith}
 use Rattle.std.proofs.lemmas.List.{append_assoc, take_at, drop_at, length-append}
 use Rattle.std.proofs.lemmas.Bool.{and_parts, cond-true, cond-false, le-ltb, lt-ltb}
 use Rattle.paths.specs.Names.{Name, Names, Text, render, plain, named, good, last, name_of}
-use Rattle.paths.specs.Bytes.{parse, padded, Holds, Sound, last_slash, last_part}
+use Rattle.paths.specs.Bytes.{parse, Holds, Sound, last_slash, last_part}
 use Rattle.paths.proofs.Renders.{ls_slash}
 
 named_of : (n : Name) → named n ≡ true → length n ≤ 255 → name_of n ≡ Some n

@@ -1,7 +1,7 @@
 -- Which paths are within the limits.
-use Rattle.std.proofs.Common.{◌≡◌, ℕ, ◌+◌, ◌<◌, ◌≤◌, Bool, true, false, cond, ◌&&◌, ◌⊎◌, List, [], ◌∷◌, ◌++◌, length, Ok, Err, refl, inl, inr, arith}
+use Rattle.std.proofs.Common.{◌≡◌, ◌<◌, ◌≤◌, ◌⊎◌, [], ◌∷◌, length, Ok, Err, refl, inl, inr, arith}
 use Rattle.std.proofs.lemmas.Bool.Decides.{nat_tests}
-use Rattle.paths.specs.Names.{Names, render, text, within}
+use Rattle.paths.specs.Names.{Names, render}
 use Rattle.paths.specs.Texts.{limited}
 
 pub limited_ok : (p : Names) → length p ≤ 8 → length (render p) ≤ 64 → limited p ≡ Ok p

@@ -1,11 +1,11 @@
 -- A normal form has nothing but names, and its text reads back.
-use Rattle.std.proofs.Common.{◌≡◌, ℕ, ◌+◌, ◌<◌, ◌≤◌, Bool, true, false, cond, not, ◌&&◌, eqb, ltb, leb, ◌⊎◌, List, [], ◌∷◌, ◌++◌, length, Some, None, Ok, Err, Option, sym, refl, ap, ◌∙◌, subst, inl, inr, arith}
+use Rattle.std.proofs.Common.{◌≡◌, ◌+◌, ◌<◌, true, false, not, eqb, ltb, leb, List, [], ◌∷◌, ◌++◌, length, Some, None, Option, sym, refl, ap, ◌∙◌, arith}
 use Rattle.std.proofs.lemmas.List.{append_assoc, append-nil}
-use Rattle.std.proofs.lemmas.Bool.{and_parts, and_from, cases_Bool, cond-true, cond-false}
+use Rattle.std.proofs.lemmas.Bool.{and_parts, cases_Bool, cond-true, cond-false}
 use Rattle.std.proofs.lemmas.Bool.Decides.{nat_tests}
-use Rattle.paths.specs.Names.{Name, Names, Text, render, text, plain, dots, named, good, within, up}
+use Rattle.paths.specs.Names.{Name, Names, Text, render, text, plain, dots, named, good, within}
 use Rattle.paths.specs.Order.{outward}
-use Rattle.paths.specs.Texts.{parts, walk, walked, below_root, walked_from, normalised, zeroless, limited, read}
+use Rattle.paths.specs.Texts.{parts, walk, walked, below_root, walked_from, normalised, zeroless, limited}
 use Rattle.paths.specs.Laws.{NormalForm, ReadsBack}
 use Rattle.paths.proofs.Renders.{plains, parts_plain}
 use Rattle.paths.proofs.Spells.{spell, render_spell, plains_out}

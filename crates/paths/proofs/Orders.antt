@@ -1,10 +1,10 @@
 -- The order of the texts, a slash lowest, is that of the names.
-use Rattle.std.proofs.Common.{◌≡◌, ℕ, ◌+◌, ◌<◌, ◌≤◌, Bool, true, false, cond, ◌&&◌, eqb, ltb, List, [], ◌∷◌, ◌++◌, length, get_or, take, drop, Less, Equal, Greater, sym, refl, ap, ◌∙◌, arith}
-use Rattle.std.proofs.lemmas.List.{append_assoc, append-nil, drop_more, drop_all}
-use Rattle.std.proofs.lemmas.Bool.{and_parts, and_from, cases_Bool}
+use Rattle.std.proofs.Common.{◌≡◌, ℕ, ◌+◌, ◌<◌, ◌≤◌, true, ltb, List, [], ◌∷◌, ◌++◌, length, get_or, take, drop, Less, Equal, Greater, refl, ap, ◌∙◌, arith}
+use Rattle.std.proofs.lemmas.List.{drop_more, drop_all}
+use Rattle.std.proofs.lemmas.Bool.{and_parts, cases_Bool}
 use Rattle.std.proofs.lemmas.Bool.Decides.{nat_tests}
 use Rattle.paths.proofs.Walks.{text_of}
-use Rattle.paths.specs.Names.{Name, Names, render, plain, named, good}
+use Rattle.paths.specs.Names.{Name, Names, render, plain, good}
 use Rattle.paths.proofs.Renders.{plains}
 use Rattle.paths.proofs.Spells.{spell, render_spell, plains_out}
 use Rattle.paths.specs.Bytes.{parse, Sound, keyed}

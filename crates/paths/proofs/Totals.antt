@@ -1,9 +1,9 @@
 -- Paths are in a total order.
-use Rattle.std.proofs.Common.{◌≡◌, ℕ, Bool, true, false, cond, eqb, ltb, ◌⊎◌, List, [], ◌∷◌, ◌++◌, Ordering, Less, Equal, Greater, sym, refl, ap, ◌∙◌, inl, inr, arith}
+use Rattle.std.proofs.Common.{◌≡◌, ℕ, true, ltb, ◌⊎◌, List, [], ◌∷◌, ◌++◌, Ordering, Less, Equal, Greater, sym, refl, ap, ◌∙◌, inl, inr, arith}
 use Rattle.std.proofs.lemmas.Bool.{cases_Bool, cond-false}
 use Rattle.std.proofs.lemmas.Bool.Decides.{nat_tests}
 use Rattle.std.specs.Ordering.{ordering_then, ordering_reverse, is_le}
-use Rattle.paths.specs.Names.{Name, Names, same_path, starts_with}
+use Rattle.paths.specs.Names.{Names, same_path, starts_with}
 use Rattle.paths.specs.Order.{order_by, order_byte, order_name, order_path, outward}
 use Rattle.paths.specs.Laws.{TotalOrder, AboveFirst}
 use Rattle.paths.proofs.Spells.{outward_back, outward_append}

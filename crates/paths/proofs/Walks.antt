@@ -1,11 +1,11 @@
 -- Comparing paths and going up from them.
-use Rattle.std.proofs.Common.{◌≡◌, ℕ, ◌<◌, ◌≤◌, Bool, true, false, cond, ◌&&◌, eqb, List, [], ◌∷◌, ◌++◌, length, get_or, take, drop, Some, None, Decides, sym, refl, ap, ◌∙◌, arith}
+use Rattle.std.proofs.Common.{◌≡◌, ℕ, ◌<◌, ◌≤◌, Bool, true, cond, eqb, List, [], ◌∷◌, length, get_or, take, drop, Some, Decides, sym, refl, ap, ◌∙◌, arith}
 use Rattle.std.proofs.lemmas.Bool.Decides.{nat_tests, same_from_decides}
-use Rattle.std.proofs.lemmas.Bool.{and_parts, and_from, eqb-true, eq-eqb, cases_Bool}
+use Rattle.std.proofs.lemmas.Bool.{cases_Bool}
 use Rattle.std.proofs.lemmas.List.{take_at}
-use Rattle.paths.specs.Names.{Name, Names, same_name, same_path, starts_with, up, render, text}
+use Rattle.paths.specs.Names.{Names, same_path, starts_with, up, render, text}
 use Rattle.paths.specs.Bytes.{parse, Sound}
-use Rattle.paths.specs.Equal.{same_path_true, same_path_same, decides_same_path}
+use Rattle.paths.specs.Equal.{decides_same_path}
 use Rattle.paths.specs.Texts.{zeroless, below_root}
 
 pub starts_more : (p q : Names) → 0 < length p → starts_with p q ≡ cond (same_path p q) true (starts_with (up p) q)

@@ -1,5 +1,5 @@
 -- That paths are equal where their names are, and so that equality of paths goes both ways round, and along a chain.
-use Rattle.std.specs.Prelude.{◌≡◌, Bool, true, List, [], ◌∷◌, refl, ℕ}
+use Rattle.std.specs.Prelude.{◌≡◌, true, List, [], ◌∷◌, refl, ℕ}
 use Rattle.std.specs.Cmp.{IsPartialEquivalence, both_ways}
 use Rattle.std.proofs.Common.{eqb, Decides, sym, ap, ◌∙◌, arith}
 use Rattle.std.proofs.lemmas.Bool.{and_parts, and_from, eqb-true, eq-eqb}

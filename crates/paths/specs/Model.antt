@@ -1,6 +1,6 @@
 -- What the values of the code stand for.
-use Rattle.std.specs.Prelude.{ℕ, cond, take, Ok, Err, Result}
-use Rattle.paths.specs.Names.{Name, Names, within}
+use Rattle.std.specs.Prelude.{ℕ, take, Ok, Err, Result}
+use Rattle.paths.specs.Names.{Name, Names}
 use Rattle.paths.specs.Bytes.{parse}
 use Rattle.paths.specs.declared.path.Path.{Path}
 use Rattle.paths.specs.declared.wide.Wide.{Wide}

@@ -1,6 +1,6 @@
 -- The path that a text names below a working directory.
 use Rattle.std.specs.Prelude.{ℕ, ◌+◌, Bool, true, false, cond, List, [], ◌∷◌, ◌++◌, length, drop, Some, None, Ok, Err, Option, Result, ◌==◌, nat_le, nat_lt}
-use Rattle.paths.specs.Names.{Name, Names, Text, dots, up, within}
+use Rattle.paths.specs.Names.{Names, Text, dots, up, within}
 
 -- The parts of a text between its slashes, where cur is what was read of the first.
 abbrev pub parts : Text → Text → List Text

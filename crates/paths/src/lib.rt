@@ -1,4 +1,6 @@
 // Paths of at most 8 names and 64 bytes, and the texts that name them.
+#![tactic(auto)]
+
 mod bytes;
 pub mod cursor;
 pub mod name;

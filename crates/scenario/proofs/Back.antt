@@ -1,10 +1,10 @@
 -- The word of a text is one word, and stands for that text.
-use Rattle.std.proofs.Common.{◌≡◌, ℕ, ◌+◌, ◌*◌, ◌/◌, ◌%◌, ◌<◌, Bool, true, false, cond, eqb, List, [], ◌∷◌, ◌++◌, Some, None, sym, refl, ap, ◌∙◌, arith}
+use Rattle.std.proofs.Common.{◌≡◌, ℕ, ◌+◌, ◌*◌, ◌/◌, ◌%◌, ◌<◌, false, List, [], ◌∷◌, ◌++◌, Some, refl, ◌∙◌, arith}
 use Rattle.std.proofs.lemmas.Bool.{cond_both}
 use Rattle.std.proofs.lemmas.Bool.Decides.{nat_tests}
 use Rattle.std.specs.List.{AllByRecursion as All}
 use Rattle.scenario.specs.Words.{words, space}
-use Rattle.scenario.specs.Escapes.{plain, hex, written, spelt, encoded, nibble, paired, before, read, escaped, decoded, ComesBack, OneWord}
+use Rattle.scenario.specs.Escapes.{plain, hex, written, spelt, nibble, read, decoded, ComesBack, OneWord}
 
 -- the word of a byte that does not stand for itself
 abbrev escape : ℕ → List ℕ

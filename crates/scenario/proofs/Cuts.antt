@@ -1,10 +1,10 @@
 -- Where the first word of a line ends, and what is left then.
-use Rattle.std.proofs.Common.{◌≡◌, ℕ, ◌+◌, ◌≤◌, cond, not, List, [], ◌∷◌, length, take, drop, sym, refl, ap, ◌∙◌, add_assoc, one-add, arith}
+use Rattle.std.proofs.Common.{◌≡◌, ℕ, ◌+◌, ◌≤◌, not, List, [], ◌∷◌, length, take, drop, refl, ap, add_assoc, one-add, arith}
 use Rattle.std.specs.List.{prefix_len}
 use Rattle.std.proofs.lemmas.List.{drop-drop, length-drop}
 use Rattle.std.proofs.lemmas.Bool.{cases_Bool}
 use Rattle.std.proofs.lemmas.Bool.Decides.{nat_tests}
-use Rattle.scenario.specs.Words.{space, onto, words}
+use Rattle.scenario.specs.Words.{space, words}
 use Rattle.scenario.specs.Walk.{left}
 
 abbrev pub letters : List ℕ → ℕ

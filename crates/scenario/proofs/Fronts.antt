@@ -1,7 +1,6 @@
 -- What the first characters of a word stand for, and the others.
-use Rattle.std.proofs.Common.{◌≡◌, ℕ, ◌<◌, ◌≤◌, true, false, List, [], ◌∷◌, ◌++◌, length, get_or, drop, is_some, Some, None, Option, refl, ap, append_assoc, arith}
-use Rattle.std.proofs.lemmas.Bool.Decides.{nat_tests}
-use Rattle.scenario.specs.Escapes.{plain, nibble, paired, before, read, escaped, spelt, encoded}
+use Rattle.std.proofs.Common.{◌≡◌, ℕ, ◌<◌, ◌≤◌, List, [], ◌∷◌, ◌++◌, length, get_or, drop, is_some, Some, None, Option, refl, ap, append_assoc, arith}
+use Rattle.scenario.specs.Escapes.{nibble, paired, before, read, escaped, spelt, encoded}
 
 pub escaped_at : (w : List ℕ) → 2 ≤ length w → escaped w ≡ before (paired (nibble (get_or w 0 0)) (nibble (get_or w 1 0))) (read (drop 2 w))
 escaped_at [] h = absurd (omega arith)

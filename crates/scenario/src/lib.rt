@@ -1,4 +1,6 @@
 // The lexical rules of scenarios: lines, words, texts and numbers.
+#![tactic(auto)]
+
 mod line;
 mod numbers;
 mod reading;

@@ -1,5 +1,5 @@
 -- What is found under a key after it was removed or entered.
-use Rattle.std.proofs.Common.{◌≡◌, ℕ, Bool, true, false, cond, not, List, [], ◌∷◌, Some, refl, inl, inr, arith}
+use Rattle.std.proofs.Common.{◌≡◌, ℕ, Bool, true, false, List, [], ◌∷◌, Some, refl, inl, inr, arith}
 use Rattle.std.proofs.lemmas.Bool.{cases_Bool}
 use Rattle.tables.specs.declared.keys.Entry.{Entry}
 use Rattle.tables.specs.Entries.{under, held, revalued, ascending}

@@ -1,4 +1,6 @@
 // Bounded lists whose memory is had once: a table in the order of its keys, and a queue.
+#![tactic(auto)]
+
 pub mod ascending;
 mod changes;
 pub mod full;

@@ -1,4 +1,4 @@
-use Rattle.std.proofs.Common.{ℕ, replicate, sym, refl, ap, ◌∙◌, arith, length-drop, length-take}
+use Rattle.std.proofs.Common.{ℕ, replicate, refl, ap, ◌∙◌, arith, length-drop, length-take}
 use Rattle.paths.proofs.Renders.{trimmed_is}
 use Rattle.paths.proofs.bytes.blank.Goals as goal
 

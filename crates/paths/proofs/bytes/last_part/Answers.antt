@@ -1,4 +1,4 @@
-use Rattle.std.proofs.Common.{◌+◌, cond, ltb, length, drop, sym, ap, ◌∙◌, arith}
+use Rattle.std.proofs.Common.{◌+◌, ltb, length, drop, sym, ap, ◌∙◌, arith}
 use Rattle.std.proofs.lemmas.List.{take_rest}
 use Rattle.std.proofs.lemmas.Bool.{cond-true, lt-ltb}
 use Rattle.paths.specs.Bytes.{last_slash}

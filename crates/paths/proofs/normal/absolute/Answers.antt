@@ -1,4 +1,4 @@
-use Rattle.std.proofs.Common.{◌≡◌, false, ltb, length, Err, sym, ap, ◌∙◌}
+use Rattle.std.proofs.Common.{◌≡◌, ltb, length, Err, sym, ap, ◌∙◌}
 use Rattle.std.proofs.lemmas.Bool.{cond-true, cond-false, lt-ltb, le-ltb}
 use Rattle.paths.specs.Texts.{read, zeroless, limited, normalised}
 use Rattle.paths.specs.Model.{names, replied, placed}

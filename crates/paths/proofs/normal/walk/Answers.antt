@@ -1,7 +1,7 @@
 use Rattle.std.proofs.Common.{◌≡◌, true, [], ◌∷◌, sym, refl, ap, ◌∙◌, arith}
 use Rattle.std.proofs.lemmas.Bool.{and_parts}
 use Rattle.paths.specs.Names.{plain}
-use Rattle.paths.specs.Texts.{walk, walked, parts_from}
+use Rattle.paths.specs.Texts.{walked, parts_from}
 use Rattle.paths.specs.Model.{wide_names}
 use Rattle.paths.proofs.Renders.{plains, parts_plain, left_start}
 use Rattle.paths.proofs.Parts.{part_next}

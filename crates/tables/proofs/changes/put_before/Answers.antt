@@ -1,4 +1,4 @@
-use Rattle.std.proofs.Common.{◌≡◌, true, is_ok, sym, ap, ◌∙◌, arith}
+use Rattle.std.proofs.Common.{arith}
 use Rattle.tables.proofs.Places.{placed_at}
 use Rattle.tables.proofs.changes.put_before.Goals as goal
 

@@ -1,4 +1,4 @@
-use Rattle.std.proofs.Common.{◌≡◌, ◌-◌, ◌<◌, take, ap, ◌∙◌, arith, rules}
+use Rattle.std.proofs.Common.{◌≡◌, ◌<◌, take, ap, ◌∙◌, arith, rules}
 use Rattle.paths.proofs.Renders.{slash_within, parent_sealed}
 use Rattle.paths.proofs.path.Path.parent.Goals as goal
 use Rattle.paths.specs.Bytes.{last_slash}

@@ -1,4 +1,4 @@
-use Rattle.std.proofs.Common.{take, sym, refl, ap, ◌∙◌, arith}
+use Rattle.std.proofs.Common.{take, sym, ap, ◌∙◌, arith}
 use native.Mathlib.Nat.{sub-zero}
 use Rattle.paths.specs.Model.{names, spelling}
 use Rattle.paths.specs.Names.{text}

@@ -1,4 +1,4 @@
-use Rattle.std.proofs.Common.{arith, lit≤}
+use Rattle.std.proofs.Common.{lit≤}
 use Rattle.paths.proofs.Renders.{wide_copied}
 use Rattle.paths.specs.Model.{names, wide_names}
 use Rattle.paths.proofs.wide.Wide.of.Goals as goal

@@ -1,5 +1,5 @@
-use Rattle.std.proofs.Common.{◌≡◌, true, sym, ap, ◌∙◌, arith}
-use Rattle.tables.specs.Entries.{under, ascending, entered}
+use Rattle.std.proofs.Common.{sym, ap, ◌∙◌, arith}
+use Rattle.tables.specs.Entries.{under, ascending}
 use Rattle.tables.proofs.Entered.{entered_there, entered_new, entered_full, ascending_entered}
 use Rattle.tables.proofs.Places.{hit, missed}
 use Rattle.tables.proofs.ascending.Table.insert.Goals as goal

@@ -1,4 +1,4 @@
-use Rattle.std.proofs.Common.{sym, refl, ap, ◌∙◌}
+use Rattle.std.proofs.Common.{sym, ap, ◌∙◌}
 use Rattle.tables.specs.Entries.{under, ascending}
 use Rattle.tables.proofs.Entered.{ascending_without}
 use Rattle.tables.proofs.Places.{hit, missed}
