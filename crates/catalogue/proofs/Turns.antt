@@ -1,7 +1,7 @@
 -- The turns of a walk through a catalogue.
-use Rattle.std.proofs.Common.{◌≡◌, ℕ, zero, suc, ◌-◌, ◌<◌, Bool, true, false, List, [], ◌∷◌, length, Some, None, Ok, Err, sym, refl, ap, ◌∙◌, arith}
+use Rattle.std.proofs.Common.{◌≡◌, ℕ, zero, suc, ◌-◌, ◌<◌, Bool, [], ◌∷◌, length, Some, None, Ok, Err, refl, ap, ◌∙◌, arith}
 use Rattle.outside.specs.declared.cause.ScanCause.{ScanCause}
-use Rattle.outside.specs.declared.cause.ScanCause.TheVariants.{Number, NotFound}
+use Rattle.outside.specs.declared.cause.ScanCause.TheVariants.{Number}
 use Rattle.paths.specs.Names.{Names}
 use Rattle.catalogue.specs.Nodes.{Node, Nodes, node_at}
 use Rattle.catalogue.specs.Ways.{seen, clear, replaced, stopped, way, passed, by_way, on_with, arrive}

@@ -1,14 +1,14 @@
 -- What the reply to a walk, and the path beside it, say of a path.
-use Rattle.std.specs.Prelude.{◌≡◌, ℕ, Bool, true, cond, List, map, Ok, Err, Result, ◌≢◌, refl}
+use Rattle.std.specs.Prelude.{◌≡◌, ℕ, Bool, true, cond, map, Ok, Err, Result, ◌≢◌, refl}
 use Rattle.std.proofs.Common.{sym, ap, ◌∙◌, arith}
 use Rattle.outside.specs.declared.cause.ScanCause.{ScanCause}
 use Rattle.outside.specs.declared.cause.ScanCause.TheVariants.{Number, NotFound}
-use Rattle.outside.specs.Answers.{Entry, directory as a_directory, symlink, other, Classified, Listed}
+use Rattle.outside.specs.Answers.{directory as a_directory, symlink, other, Classified, Listed}
 use Rattle.paths.specs.Names.{Names}
 use Rattle.catalogue.specs.declared.node.Kind.{Kind}
 use Rattle.catalogue.specs.declared.node.Kind.TheVariants.{Directory, File, Link}
 use Rattle.catalogue.specs.Nodes.{Node, Nodes, directory, file, link, children}
-use Rattle.catalogue.specs.Ways.{Arrival, entry, followed, classified_by, classified_at, classified, listed_by, listed_at, arrive}
+use Rattle.catalogue.specs.Ways.{Arrival, entry, followed, classified_by, classified_at, listed_by, listed_at}
 use Rattle.catalogue.specs.Model.{kind_at, entry_by, replied, come_to}
 
 abbrev pub followed_by : Result Kind ScanCause → Names → Classified

@@ -1,5 +1,5 @@
 -- What the values of the code stand for.
-use Rattle.std.specs.Prelude.{ℕ, zero, suc, List, map, Some, None, Ok, Err, vec_items, Result}
+use Rattle.std.specs.Prelude.{ℕ, zero, suc, map, Some, None, Ok, Err, vec_items, Result}
 use Rattle.paths.specs.Names.{Names}
 use Rattle.paths.specs.Model.{names}
 use Rattle.paths.specs.declared.path.Path.{Path}

@@ -1,5 +1,5 @@
 -- The nodes of a catalogue, each under its path.
-use Rattle.std.specs.Prelude.{Bool, cond, not, List, [], ◌∷◌, Some, None, filter, Option, Result}
+use Rattle.std.specs.Prelude.{cond, not, List, [], ◌∷◌, Some, None, filter, Option, Result}
 use Rattle.paths.specs.Names.{Name, Names, same_path, starts_with}
 use Rattle.paths.specs.Order.{before_path}
 use Rattle.tables.specs.declared.keys.Entry.{Entry}

@@ -1,9 +1,9 @@
 -- Where a path leads in a catalogue.
-use Rattle.std.specs.Prelude.{ℕ, zero, suc, Bool, true, false, cond, List, [], ◌∷◌, map, Some, None, Ok, Err, Option, Result}
-use Rattle.paths.specs.Names.{Name, Names, within}
+use Rattle.std.specs.Prelude.{ℕ, zero, suc, Bool, true, false, cond, [], ◌∷◌, map, Some, None, Ok, Err, Option, Result}
+use Rattle.paths.specs.Names.{Names, within}
 use Rattle.outside.specs.declared.cause.ScanCause.{ScanCause}
 use Rattle.outside.specs.declared.cause.ScanCause.TheVariants.{NotFound, Number}
-use Rattle.outside.specs.Answers.{Entry, directory as a_directory, symlink, other, Classified, ListingItem, Listed}
+use Rattle.outside.specs.Answers.{Entry, directory as a_directory, symlink, other, Classified, Listed}
 use Rattle.catalogue.specs.Nodes.{Node, directory, file, link, Nodes, node_at, children}
 
 -- What the way down from "/" to a path comes to: the path's node; the path that it becomes when the first link on it is

@@ -1,4 +1,6 @@
 // A small file tree of directories, files and links, as a scanner.
+#![tactic(auto)]
+
 mod arriving;
 mod editing;
 pub mod node;

@@ -7,7 +7,7 @@ use Rattle.paths.specs.Equal.{same_path_same}
 use Rattle.tables.specs.PathKeys.{path_apart, path_total, path_transitive}
 use Rattle.rules.specs.declared.identity_kind.IdentityKind.{IdentityKind}
 use Rattle.rules.specs.declared.identity_kind.IdentityKind.TheVariants.{Canonical, Lexical}
-use Rattle.rules.specs.Roots.{Root, same_mark, before_mark, same_root, before_root, same_kind, before_kind, same_identity, before_identity, same_owned, before_owned, same_share, before_share, same_seen, before_seen}
+use Rattle.rules.specs.Roots.{same_mark, before_mark, same_root, before_root, same_kind, before_kind, same_identity, before_identity, same_owned, before_owned, same_share, before_share, same_seen, before_seen}
 use Rattle.entries.specs.Lawful.{Lawful, lawful_pair}
 
 pub lawful_path : Lawful same_path before_path

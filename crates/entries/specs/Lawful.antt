@@ -1,6 +1,6 @@
 -- Keys of two parts, the first of which decides: they are lawful where both parts are.
 use Rattle.std.specs.Prelude.{◌≡◌, ℕ, Bool, true, false, cond, ◌&&◌, refl}
-use Rattle.std.proofs.Common.{sym, ◌∙◌, inl, inr, arith}
+use Rattle.std.proofs.Common.{inl, inr, arith}
 use Rattle.std.proofs.lemmas.Bool.{cases_Bool}
 use Rattle.std.specs.Ordering.{ordering_then}
 use Rattle.tables.specs.Order.{ranked}

@@ -1,5 +1,5 @@
 -- What the entries of the code stand for.
-use Rattle.std.specs.Prelude.{ℕ, Bool}
+use Rattle.std.specs.Prelude.{ℕ}
 use Rattle.paths.specs.Names.{Names}
 use Rattle.paths.specs.Model.{names}
 use Rattle.outside.specs.Model.{carries}

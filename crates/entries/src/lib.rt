@@ -1,4 +1,6 @@
 // What the recursor's tables and queues hold: roots, identities, the keys made of them, works and faults.
+#![tactic(auto)]
+
 pub mod fault;
 pub mod guard;
 pub mod identity;

@@ -1,4 +1,6 @@
 // Reads scenarios from standard input, does them, and prints what it did.
+#![tactic(auto)]
+
 mod args;
 mod backends;
 mod causes;

@@ -1,5 +1,5 @@
 -- The written definitions at "/" and one name below q, told apart by a path's depth.
-use Rattle.std.proofs.Common.{◌≡◌, ◌<◌, Bool, true, false, cond, List, [], ◌∷◌, length, Ok, Err, sym, refl, ap, ◌∙◌, arith}
+use Rattle.std.proofs.Common.{◌≡◌, ◌<◌, Bool, true, false, cond, [], ◌∷◌, length, Ok, Err, sym, refl, ap, ◌∙◌, arith}
 use Rattle.paths.specs.Names.{Names, up, same_path}
 use Rattle.outside.specs.declared.cause.ScanCause.TheVariants.{NotFound, Number}
 use Rattle.outside.specs.Answers.{directory, symlink, other, Classified, Verdict}

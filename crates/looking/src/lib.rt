@@ -1,4 +1,6 @@
 // What is learnt from a scanner and a filterer: how a root stands, which directory guards it, which paths are allowed.
+#![tactic(auto)]
+
 mod ascent;
 mod descent;
 pub mod explicit_root;

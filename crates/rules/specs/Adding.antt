@@ -1,5 +1,5 @@
 -- Adding a logical path, and what a watch's answer means.
-use Rattle.std.specs.Prelude.{Bool, true, false, cond, ◌&&◌, ◌||◌, Some, None, Ok, Err, Option, nat_le}
+use Rattle.std.specs.Prelude.{Bool, true, false, cond, Some, None, Ok, Err, Option, nat_le}
 use Rattle.paths.specs.Names.{Names}
 use Rattle.outside.specs.declared.cause.BackendCause.{BackendCause}
 use Rattle.outside.specs.Answers.{Entry, directory, symlink, other, Classified}

@@ -5,7 +5,6 @@ use Rattle.paths.specs.Order.{before_path}
 use Rattle.paths.specs.Texts.{read, zeroless, below_root}
 use Rattle.outside.specs.declared.cause.BackendCause.{BackendCause}
 use Rattle.outside.specs.Requests.{Answer, done, failed, unwatch}
-use Rattle.tables.specs.declared.keys.Entry.{Entry}
 use Rattle.rules.specs.declared.progress.Phase.TheVariants.{Settled}
 use Rattle.rules.specs.declared.refusal.Refusal.TheVariants.{TextLong, ZeroByte, CwdRelative, PathsMany, Stranded, EpochEnd}
 use Rattle.rules.specs.declared.watcher_kind.WatcherKind.{WatcherKind}

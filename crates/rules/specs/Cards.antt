@@ -1,5 +1,5 @@
 -- Ten worked examples, as facts about the definitions.
-use Rattle.std.specs.Prelude.{◌≡◌, ℕ, true, false, cond, List, [], ◌∷◌, map, Some, None, Ok, Err, codes, Result}
+use Rattle.std.specs.Prelude.{◌≡◌, ℕ, true, false, cond, List, [], ◌∷◌, map, Some, None, Ok, Err, codes}
 use Rattle.paths.specs.Names.{Name, Names, Text, same_path, starts_with}
 use Rattle.paths.specs.Texts.{normalised}
 use Rattle.outside.specs.declared.cause.BackendCause.TheVariants.{Io}

@@ -1,5 +1,5 @@
 -- Edits: changes of the state alone, which may stop for want of a place and then keep what was done.
-use Rattle.std.specs.Prelude.{ℕ, ◌+◌, Bool, true, false, cond, not, ◌&&◌, List, [], ◌∷◌, ◌++◌, length, Some, None, Ok, Err, filter, Option, Result, nat_lt}
+use Rattle.std.specs.Prelude.{ℕ, ◌+◌, Bool, true, false, cond, not, ◌&&◌, List, [], ◌∷◌, ◌++◌, length, Ok, Err, filter, Result, nat_lt}
 use Rattle.std.specs.Option.{unwrap_or}
 use Rattle.paths.specs.Names.{Names, same_path, starts_with}
 use Rattle.paths.specs.Order.{before_path}
@@ -7,8 +7,8 @@ use Rattle.tables.specs.declared.full.NoPlace.{NoPlace}
 use Rattle.tables.specs.Entries.{under, held, revalued, entered}
 use Rattle.tables.specs.Lists.{any}
 use Rattle.tables.specs.Room.{fitted}
-use Rattle.rules.specs.Lists.{Table, has_place}
-use Rattle.rules.specs.Roots.{Root, same_root, before_root, Identity, same_identity, before_identity, Owned, same_owned, before_owned, Share, same_share, before_share, Seen, same_seen, before_seen}
+use Rattle.rules.specs.Lists.{has_place}
+use Rattle.rules.specs.Roots.{Root, same_root, before_root, Identity, same_identity, before_identity, same_owned, before_owned, same_share, before_share, same_seen, before_seen}
 use Rattle.rules.specs.State.{State, Guard, Work}
 use Rattle.rules.specs.Setters.{with_logical, with_owners, with_records, with_guards, with_guarded, with_seen, with_work, with_removals, with_owner_removals, with_skipped, with_failures, with_retry_candidates, with_retry_roots, with_tombstones}
 

@@ -1,6 +1,6 @@
 -- What the outside tells: something was created, removed, renamed, or is in doubt.
 use Rattle.std.specs.Prelude.{Bool, true, false, cond, ◌||◌, List, [], ◌∷◌, ◌++◌, map, Some, None, Ok, Err, filter, Option, Result}
-use Rattle.paths.specs.Names.{Name, Names, within, same_path, starts_with}
+use Rattle.paths.specs.Names.{Names, within, same_path, starts_with}
 use Rattle.paths.specs.Order.{before_path}
 use Rattle.tables.specs.declared.full.NoPlace.{NoPlace}
 use Rattle.tables.specs.Entries.{entered}

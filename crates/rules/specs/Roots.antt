@@ -1,5 +1,5 @@
 -- Roots and identities, and the keys that are made of them.
-use Rattle.std.specs.Prelude.{ℕ, Bool, true, false, cond, not, ◌&&◌}
+use Rattle.std.specs.Prelude.{Bool, true, false, cond, not, ◌&&◌}
 use Rattle.paths.specs.Names.{Names, same_path}
 use Rattle.paths.specs.Order.{before_path}
 use Rattle.rules.specs.declared.identity_kind.IdentityKind.{IdentityKind}

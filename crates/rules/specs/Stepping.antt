@@ -13,7 +13,7 @@ use Rattle.rules.specs.Roots.{Share}
 use Rattle.rules.specs.Runs.{World, Run, end, then}
 use Rattle.rules.specs.State.{State, Stale, Work, has_work}
 use Rattle.rules.specs.Setters.{with_removals, with_owner_removals, with_work, with_sweep, with_phase, with_tombstones, with_refresh, with_stranded}
-use Rattle.rules.specs.Acts.{Act, Progress, Outcome, went, halted, ◌>>=◌, ◌>>◌, pass, looking, change}
+use Rattle.rules.specs.Acts.{Act, Progress, Outcome, went, halted, ◌>>◌, pass, looking, change}
 use Rattle.rules.specs.Queueing.{prepare_sweep}
 use Rattle.rules.specs.Removing.{remove_logical, remove_owner, remove_owner_force}
 use Rattle.rules.specs.Works.{step_work}

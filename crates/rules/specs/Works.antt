@@ -3,7 +3,7 @@ use Rattle.std.specs.Prelude.{ℕ, zero, suc, Bool, true, false, cond, not, ◌&
 use Rattle.paths.specs.Names.{Names, within}
 use Rattle.outside.specs.declared.cause.ScanCause.{ScanCause}
 use Rattle.outside.specs.declared.cause.ScanCause.TheVariants.{NotFound, Number}
-use Rattle.outside.specs.Answers.{Entry, directory, symlink, other, Classified, ListingItem, Listed}
+use Rattle.outside.specs.Answers.{directory, symlink, other, Classified, ListingItem, Listed}
 use Rattle.rules.specs.declared.progress.AddResult.{AddResult}
 use Rattle.rules.specs.declared.progress.AddResult.TheVariants.{Added, Skipped, Invalidated, Rebuild}
 use Rattle.rules.specs.Faults.{scan_fault, verdict_fault, filter_fault}

@@ -1,4 +1,6 @@
 // The rules of the recursor, as written definitions (specs/), the small enums that they speak of, and the worked examples that they meet.
+#![tactic(auto)]
+
 pub mod cards;
 pub mod fault_kind;
 pub mod identity_kind;

@@ -5,7 +5,6 @@ use Rattle.paths.specs.declared.name.Name.{Name}
 use Rattle.tables.specs.Entries.{viewed}
 use Rattle.outside.specs.declared.cause.ScanCause.{ScanCause}
 use Rattle.outside.specs.Answers.{ListingItem}
-use Rattle.sheet.specs.declared.followed.Followed.{Followed}
 use Rattle.sheet.specs.declared.prepared.Sheet.{Sheet}
 use Rattle.sheet.specs.Classes.{class_of}
 use Rattle.sheet.specs.Rows.{Rows}

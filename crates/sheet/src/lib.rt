@@ -1,4 +1,6 @@
 // A sheet of prepared answers, as a scanner.
+#![tactic(auto)]
+
 mod apart;
 pub mod class;
 pub mod editing;

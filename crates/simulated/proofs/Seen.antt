@@ -1,15 +1,15 @@
 -- Tables and queues seen through what their entries stand for.
-use Rattle.std.proofs.Common.{◌≡◌, ℕ, Bool, true, false, cond, not, ltb, List, [], ◌∷◌, ◌++◌, map, length, Result, sym, refl, ap, ◌∙◌, arith}
+use Rattle.std.proofs.Common.{◌≡◌, ℕ, Bool, not, ltb, List, [], ◌∷◌, ◌++◌, map, length, Result, refl, ap, ◌∙◌, arith}
 use Rattle.std.proofs.lemmas.List.{length-map, map_push}
 use Rattle.std.proofs.lemmas.Bool.{cases_Bool}
-use Rattle.paths.specs.Names.{Names, same_path}
+use Rattle.paths.specs.Names.{same_path}
 use Rattle.paths.specs.Order.{before_path}
 use Rattle.paths.specs.Model.{names}
 use Rattle.paths.specs.declared.path.Path.{Path}
 use Rattle.tables.specs.declared.full.NoPlace.{NoPlace}
 use Rattle.tables.specs.declared.keys.Entry.{Entry}
-use Rattle.tables.specs.Entries.{under, revalued, entered as entered_in}
-use Rattle.tables.specs.Lists.{any, changed, placed}
+use Rattle.tables.specs.Entries.{under, entered as entered_in}
+use Rattle.tables.specs.Lists.{changed}
 use Rattle.tables.specs.Room.{fitted}
 use Rattle.tables.proofs.Views.{any_map, map_placed, fitted_map}
 use Rattle.simulated.specs.Paths.{holds, entered}

@@ -1,9 +1,8 @@
 -- What an answer of a board or of a roll does to its book.
-use Rattle.std.specs.Prelude.{◌≡◌, Bool, true, false, cond, List, refl}
-use Rattle.std.proofs.Common.{sym, ap, ◌∙◌, inl, inr, arith}
+use Rattle.std.specs.Prelude.{List, refl}
+use Rattle.std.proofs.Common.{inl, inr, arith}
 use Rattle.std.proofs.lemmas.Bool.{cases_Bool}
 use Rattle.paths.specs.Names.{Names}
-use Rattle.outside.specs.declared.cause.BackendCause.{BackendCause}
 use Rattle.outside.specs.declared.cause.BackendCause.TheVariants.{PathNotFound, WatchNotFound, MaxFilesWatch, Io, Other}
 use Rattle.outside.specs.Requests.{Request, watch, unwatch, Answer, done, failed, Means}
 use Rattle.simulated.specs.Paths.{holds, takes}

@@ -1,4 +1,6 @@
 // The backends and filterers that we ship: a slot board, a roll of prepared answers, and a filter of names.
+#![tactic(auto)]
+
 pub mod board;
 pub mod name_filter;
 mod path_set;

@@ -1,15 +1,10 @@
 -- What the inner struct stands for.
-use Rattle.std.specs.Prelude.{List, map, vec_items}
-use Rattle.paths.specs.Names.{Names}
+use Rattle.std.specs.Prelude.{map, vec_items}
 use Rattle.paths.specs.Model.{names}
-use Rattle.paths.specs.declared.path.Path.{Path}
 use Rattle.tables.specs.declared.keys.Entry.{Entry}
 use Rattle.tables.specs.Entries.{viewed}
-use Rattle.rules.specs.Roots.{Root, Identity, Owned, Share, Seen}
-use Rattle.rules.specs.State.{State, Guard}
+use Rattle.rules.specs.State.{State}
 use Rattle.entries.specs.Model.{root, identity, owned, share, seen, guard, stale, work}
-use Rattle.entries.specs.declared.root.Root.{Root as RootValue}
-use Rattle.entries.specs.declared.share.Share.{Share as ShareValue}
 use Rattle.state.specs.declared.inner.Inner.{Inner}
 
 -- A set's entry has no value to be seen.

@@ -1,4 +1,6 @@
 // The recursor's state: bounded tables whose memory is had once, what they answer, and the edits of one or two of them.
+#![tactic(auto)]
+
 pub mod drops;
 pub mod inner;
 pub mod lookups;

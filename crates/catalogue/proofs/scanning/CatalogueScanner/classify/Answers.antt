@@ -1,5 +1,4 @@
 use Rattle.std.proofs.Common.{true, false, Ok, Err, sym, ap, ◌∙◌}
-use Rattle.outside.specs.declared.cause.ScanCause.TheVariants.{NotFound, Number}
 use Rattle.paths.specs.Model.{names}
 use Rattle.outside.specs.Model.{kind, canonical}
 use Rattle.catalogue.specs.Ways.{arrive}

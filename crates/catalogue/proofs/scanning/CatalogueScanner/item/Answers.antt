@@ -1,4 +1,4 @@
-use Rattle.std.proofs.Common.{true, map, Ok, Err, sym, ap, ◌∙◌}
+use Rattle.std.proofs.Common.{true, Ok, Err, sym, ap, ◌∙◌}
 use Rattle.std.proofs.lemmas.Result.{err_from_is_err_and}
 use Rattle.paths.specs.Model.{names}
 use Rattle.outside.specs.Answers.{item_at}

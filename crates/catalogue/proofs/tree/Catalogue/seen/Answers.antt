@@ -1,4 +1,4 @@
-use Rattle.std.proofs.Common.{vec_items, sym, ap, ◌∙◌}
+use Rattle.std.proofs.Common.{vec_items, ap, ◌∙◌}
 use Rattle.std.specs.Option.{option_map}
 use Rattle.paths.specs.Names.{same_path}
 use Rattle.paths.specs.Model.{names}

@@ -1,6 +1,5 @@
 use Rattle.std.proofs.Common.{◌≡◌, map, drop, vec_items}
 use Rattle.std.specs.List.{slice_get}
-use Rattle.outside.specs.Answers.{ListingItem}
 use Rattle.paths.specs.Model.{names}
 use Rattle.tables.specs.Entries.{viewed}
 use Rattle.sheet.specs.Rows.{items_for}

@@ -2,7 +2,7 @@ use Rattle.std.proofs.Common.{map, vec_items, ap, ◌∙◌, ap₂}
 use Rattle.paths.specs.Model.{names}
 use Rattle.paths.specs.Names.{same_path}
 use Rattle.paths.specs.Order.{before_path}
-use Rattle.rules.specs.Edits.{edited, stored, once_more, failures_at, count_failure}
+use Rattle.rules.specs.Edits.{edited, stored, once_more, count_failure}
 use Rattle.rules.specs.Setters.{with_failures}
 use Rattle.state.specs.Model.{model}
 use Rattle.tables.proofs.Seen.{entered_seen}

@@ -1,4 +1,4 @@
-use Rattle.std.proofs.Common.{ltb, length, vec_items, sym, ap, ◌∙◌, arith}
+use Rattle.std.proofs.Common.{vec_items, arith}
 use Rattle.entries.specs.Model.{identity}
 use Rattle.paths.specs.Model.{names}
 use Rattle.rules.specs.Edits.{room_for_record}
