@@ -1,5 +1,5 @@
 -- A fault that was written, or found no place.
-use Rattle.std.proofs.Common.{◌≡◌, true, false, ltb, List, [], ◌∷◌, ◌++◌, length, Result, sym, refl, ap, inl, inr, arith}
+use Rattle.std.proofs.Common.{◌≡◌, ltb, List, [], ◌∷◌, ◌++◌, length, Result, refl, inl, inr}
 use Rattle.std.proofs.lemmas.Bool.{cases_Bool}
 use Rattle.tables.specs.declared.full.NoPlace.{NoPlace}
 use Rattle.tables.specs.Room.{fitted}

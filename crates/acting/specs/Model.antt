@@ -1,5 +1,5 @@
 -- What the progress of the code stands for, and what a method does by its definition.
-use Rattle.std.specs.Prelude.{◌≡◌, List, map, vec_items, Result}
+use Rattle.std.specs.Prelude.{◌≡◌, map, vec_items, Result}
 use Rattle.outside.specs.Requests.{Request, Answer}
 use Rattle.tables.specs.declared.full.NoPlace.{NoPlace}
 use Rattle.rules.specs.Runs.{end, Ran}

@@ -1,4 +1,6 @@
 // Acts that make no request: what a step does to the state, the faults that it writes, the rebuild that it asks.
+#![tactic(auto)]
+
 pub mod adding;
 pub mod failing;
 pub mod guarding;

@@ -9,8 +9,8 @@ returns-in_err-put_retry_root c = let p = err_from_is_err_and c.from_residual.re
 
 pub returns-in_err-how : goal.returns-in_err-how
 unfolding guard_not_watched
-returns-in_err-how c = let p = err_from_is_err_and c.from_residual-in_err-how.result c.from_residual-in_err-how.ensures.1 in rw (← c.put_retry_root.ensures, c.in_ok-put_retry_root.was, c.not_watched-how.ensures, c.in_err-how.was, p.1) refl
+returns-in_err-how c = let p = err_from_is_err_and c.from_residual-in_err-how.result c.from_residual-in_err-how.ensures.1 in rw (← c.put_retry_root.ensures, c.in_ok-put_retry_root.was, c.not_watched.ensures, c.in_err-how.was, p.1) refl
 
 pub returns : goal.returns
 unfolding guard_not_watched
-returns c = rw (← c.put_retry_root.ensures, c.in_ok-put_retry_root.was, c.not_watched-how.ensures, c.in_ok-how.was, c.guard_failed.ensures) refl
+returns c = rw (← c.put_retry_root.ensures, c.in_ok-put_retry_root.was, c.not_watched.ensures, c.in_ok-how.was, c.guard_failed.ensures) refl

@@ -8,4 +8,4 @@ returns-then-is_reported c = rw (← c.set_latch.ensures, ← c.if-is_reported.e
 
 pub returns : goal.returns
 unfolding latch
-returns c = rw (← c.set_latch.ensures, ← c.if-is_reported.ensures, ← c.set_reported.ensures) ?
+returns c = rw (← c.set_latch.ensures, ← c.if-is_reported.ensures, ← c.set_reported.ensures, ← c.resource.ensures, c.report.ensures) refl

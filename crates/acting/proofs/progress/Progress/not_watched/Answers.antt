@@ -11,13 +11,13 @@ pub returns-then-is_path_not_found : goal.returns-then-is_path_not_found
 unfolding not_watched
 returns-then-is_path_not_found c = rw (← c.if-is_path_not_found.ensures, ← c.add.ensures, c.report.ensures, c.in_ok-report.was) refl
 
-pub returns-in_err-latch : goal.returns-in_err-latch
+pub returns-in_err-latch-in-Some : goal.returns-in_err-latch-in-Some
 unfolding not_watched
-returns-in_err-latch c = let p = err_from_is_err_and c.from_residual-in_err-latch.result c.from_residual-in_err-latch.ensures.1 in rw (← c.if-is_path_not_found.ensures, ← c.in-Some.ensures, c.latch.ensures, c.in_err-latch.was, p.1) refl
+returns-in_err-latch-in-Some c = let p = err_from_is_err_and c.from_residual-in_err-latch-in-Some.result c.from_residual-in_err-latch-in-Some.ensures.1 in rw (← c.if-is_path_not_found.ensures, ← c.in-Some.ensures, c.latch.ensures, c.in_err-latch-in-Some.was, p.1) refl
 
-pub returns-in_ok-latch : goal.returns-in_ok-latch
+pub returns-in_ok-latch-in-Some : goal.returns-in_ok-latch-in-Some
 unfolding not_watched
-returns-in_ok-latch c = rw (← c.if-is_path_not_found.ensures, ← c.in-Some.ensures, c.latch.ensures, c.in_ok-latch.was) refl
+returns-in_ok-latch-in-Some c = rw (← c.if-is_path_not_found.ensures, ← c.in-Some.ensures, c.latch.ensures, c.in_ok-latch-in-Some.was) refl
 
 pub returns-in-None : goal.returns-in-None
 unfolding not_watched

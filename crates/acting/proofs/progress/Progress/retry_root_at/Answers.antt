@@ -1,5 +1,6 @@
 use Rattle.std.proofs.Common.{refl}
 use Rattle.std.proofs.lemmas.Result.{err_from_is_err_and}
+use Rattle.acting.proofs.Outcomes.{edit_outcome}
 use Rattle.rules.specs.Guarding.{retry_root_at}
 use Rattle.acting.proofs.progress.Progress.retry_root_at.Goals as goal
 
@@ -9,4 +10,4 @@ returns-in_err-report c = let p = err_from_is_err_and c.from_residual.result c.f
 
 pub returns : goal.returns
 unfolding retry_root_at
-returns c = rw (← c.scan.ensures, c.report.ensures, c.in_ok-report.was, ← c.put_retry_root.ensures) refl
+returns c = rw (← c.scan.ensures, c.report.ensures, c.in_ok-report.was, ← c.put_retry_root.ensures) (edit_outcome _ _)
