@@ -2,7 +2,7 @@
 use Rattle.std.proofs.Common.{◌≡◌, ℕ, ◌+◌, ◌*◌, ◌/◌, ◌%◌, ◌<◌, false, List, [], ◌∷◌, ◌++◌, Some, refl, ◌∙◌, arith}
 use Rattle.std.proofs.lemmas.Bool.{cond_both}
 use Rattle.std.proofs.lemmas.Bool.Decides.{nat_tests}
-use Rattle.std.specs.List.{AllByRecursion as All}
+use Rattle.std.specs.List.{AllByRecursion}
 use Rattle.scenario.specs.Words.{words, space}
 use Rattle.scenario.specs.Escapes.{plain, hex, written, spelt, nibble, read, decoded, ComesBack, OneWord}
 
@@ -23,7 +23,7 @@ read_written b w bs h e =
     (λ p. grind (arith, nat_tests))
     (λ p. grind arith)
 
-read_spelt : (bs : List ℕ) → All (λ b. b < 256) bs → read (spelt bs) ≡ Some bs
+read_spelt : (bs : List ℕ) → AllByRecursion (λ b. b < 256) bs → read (spelt bs) ≡ Some bs
 read_spelt [] h = refl
 read_spelt (b ∷ bs) h = read_written b (spelt bs) bs h.0 (read_spelt bs h.1)
 

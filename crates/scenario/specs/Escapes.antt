@@ -1,6 +1,6 @@
 -- A text of any bytes as a word, and back.
 use Rattle.std.specs.Prelude.{◌≡◌, ℕ, ◌+◌, ◌-◌, ◌*◌, ◌/◌, ◌%◌, ◌<◌, Bool, cond, not, ◌&&◌, List, [], ◌∷◌, ◌++◌, Some, None, Option, ◌==◌, nat_le, nat_lt}
-use Rattle.std.specs.List.{AllByRecursion as All}
+use Rattle.std.specs.List.{AllByRecursion}
 use Rattle.scenario.specs.Words.{words}
 
 -- a byte that stands for itself: from '!' to '~', but '%'
@@ -61,7 +61,7 @@ decoded (b ∷ c ∷ bs) = read (b ∷ c ∷ bs)
 
 -- every text of bytes comes back from its word
 abbrev pub ComesBack : Type 0
-ComesBack = (bs : List ℕ) → All (λ b. b < 256) bs → decoded (encoded bs) ≡ Some bs
+ComesBack = (bs : List ℕ) → AllByRecursion (λ b. b < 256) bs → decoded (encoded bs) ≡ Some bs
 
 -- what is written of a text is one word
 abbrev pub OneWord : Type 0
