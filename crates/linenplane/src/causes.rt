@@ -9,7 +9,7 @@ use std::fmt::Write;
 
 const LAST_32: u64 = 4294967295;
 
-// A cause of a scanner: `not_found` or `number:N`.
+// A cause of a scanner: `not-found` or `number:N`.
 pub fn read_scan_cause(word: &[u8]) -> Result<ScanCause, Wrong> {
     if is_word(word, b"not-found") {
         return Ok(ScanCause::NotFound);

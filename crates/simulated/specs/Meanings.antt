@@ -7,7 +7,7 @@ use Rattle.outside.specs.declared.cause.BackendCause.TheVariants.{PathNotFound, 
 use Rattle.outside.specs.Requests.{Request, watch, unwatch, Answer, done, failed, Means}
 use Rattle.simulated.specs.Paths.{holds, takes}
 use Rattle.simulated.specs.Board.{Board, answer, after}
-use Rattle.simulated.specs.Roll.{Roll, booked, next, answer as answer_on, after as AfterOn}
+use Rattle.simulated.specs.Roll.{Roll, booked, next, answer as answer_on, after as after_on}
 use Rattle.simulated.specs.Sets.{joined_on, parted_off, unheld_off}
 
 pub board_means : (b : Board) (q : Request) → Means (λ p. holds p b.held) q (answer b q) (λ p. holds p (after b q).held)
@@ -30,7 +30,7 @@ booked_means (unwatch w) (failed MaxFilesWatch at) xs p = refl
 booked_means (unwatch w) (failed (Io n) at) xs p = refl
 booked_means (unwatch w) (failed Other at) xs p = refl
 
-pub roll_means : (r : Roll) (q : Request) → Means (λ p. holds p r.book) q (answer_on r q) (λ p. holds p (AfterOn r q).book)
+pub roll_means : (r : Roll) (q : Request) → Means (λ p. holds p r.book) q (answer_on r q) (λ p. holds p (after_on r q).book)
 roll_means r (watch w) p =
     let m = booked_means (watch w) (next r.answers) r.book p in
     let d = cases_Bool (takes 128 w r.book) in

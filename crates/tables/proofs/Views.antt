@@ -47,7 +47,7 @@ module _ {X Y : Type 0} (f : X → Y) where
   map_tail [] = refl
   map_tail (x ∷ xs) = refl
 
-  -- The reply is the same, and the list is the one seen: e says how ys is seen, by map-push, map_placed or refl.
+  -- The reply is the same, and the list is the one seen: e says how ys is seen, by map_push, map_placed or refl.
   pub fitted_map : (n : ℕ) (xs ys : List X) {zs : List Y} → map f ys ≡ zs → ((fitted n xs ys).0 ≡ (fitted n (map f xs) zs).0) × (map f (fitted n xs ys).1 ≡ (fitted n (map f xs) zs).1)
   fitted_map n xs ys {zs} e =
       let l = length-map xs f in
