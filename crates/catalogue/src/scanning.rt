@@ -1,5 +1,5 @@
 // A catalogue as a scanner.
-ghost use Rattle.std.specs.Prelude.{◌≡◌, ℕ, true, map, Ok};
+ghost use Rattle.std.specs.Prelude.{◌≡◌, ℕ, true, false, map, Ok};
 ghost use Rattle.std.specs.Option.{option_map};
 ghost use Rattle.std.specs.List.{slice_get};
 ghost use Rattle.paths.specs.Model.{names, spelling};
@@ -7,8 +7,6 @@ ghost use Rattle.outside.specs.Model.{kind as kind_in, kind_of, canonical as can
 ghost use Rattle.catalogue.specs.Nodes.{child_name, children};
 ghost use Rattle.catalogue.specs.Ways.{arrive as arrive_at, followed, classified as classified_in, listed as listed_in};
 ghost use Rattle.catalogue.specs.Model.{nodes, entry_by};
-ghost use Rattle.std.proofs.Math.Bool;
-ghost use Rattle.catalogue.specs.Ways;
 ghost use Rattle.catalogue.specs.Arrivals.{no_link};
 
 use crate::node::Kind;
@@ -82,7 +80,7 @@ impl Scanner for Catalogue {
 
     ghost listed = { λ c p. listed_in (nodes c) p };
 
-    ghost followed = { λ c p. no_link (Ways.arrive Bool.false (nodes c) 8 p) (Ways.arrive true (nodes c) 8 p) };
+    ghost followed = { λ c p. no_link (arrive_at false (nodes c) 8 p) (arrive_at true (nodes c) 8 p) };
 
     fn classify(
         &self,
