@@ -1,11 +1,9 @@
 // A board as a backend.
 ghost use Rattle.std.specs.Prelude.{◌≡◌};
-ghost use Rattle.std.proofs.Common.{ap, sym, ◌∙◌};
 ghost use Rattle.simulated.specs.Paths.{holds};
 ghost use Rattle.simulated.specs.Board.{answer, after as after_on};
 ghost use Rattle.simulated.specs.Model.{board};
-ghost use Rattle.outside.specs.Requests.{book_after};
-ghost use Rattle.simulated.specs.Meanings.{board_means};
+ghost use Rattle.simulated.specs.Meanings.{board_did};
 
 use super::Board;
 use outside::{Backend, BackendCause, Carried};
@@ -16,7 +14,7 @@ impl Backend for Board {
 
     ghost did = { λ b q a c. (a ≡ answer (board b) q) × (board c ≡ after_on (board b) q) };
 
-    ghost means = { λ b q a c d p. ap (λ x. holds p x.held) d.1 ∙ (board_means (board b) q p ∙ sym (ap (λ x. book_after q x (λ y. holds y (board b).held) p) d.0)) };
+    ghost means = { λ b q a c d. board_did (board b) (board c) q a d };
 
     fn watch(&mut self, path: &Path, carried: &mut Carried) -> Result<(), BackendCause> {
         carried.clear();

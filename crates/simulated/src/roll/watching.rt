@@ -1,11 +1,9 @@
 // A roll as a backend.
 ghost use Rattle.std.specs.Prelude.{◌≡◌};
-ghost use Rattle.std.proofs.Common.{ap, sym, ◌∙◌};
 ghost use Rattle.simulated.specs.Paths.{holds};
 ghost use Rattle.simulated.specs.Roll.{answer, after as after_on};
 ghost use Rattle.simulated.specs.Model.{roll};
-ghost use Rattle.outside.specs.Requests.{book_after};
-ghost use Rattle.simulated.specs.Meanings.{roll_means};
+ghost use Rattle.simulated.specs.Meanings.{roll_did};
 
 use super::Roll;
 use outside::{Backend, BackendCause, Carried};
@@ -16,7 +14,7 @@ impl Backend for Roll {
 
     ghost did = { λ b q a c. (a ≡ answer (roll b) q) × (roll c ≡ after_on (roll b) q) };
 
-    ghost means = { λ b q a c d p. ap (λ x. holds p x.book) d.1 ∙ (roll_means (roll b) q p ∙ sym (ap (λ x. book_after q x (λ y. holds y (roll b).book) p) d.0)) };
+    ghost means = { λ b q a c d. roll_did (roll b) (roll c) q a d };
 
     fn watch(&mut self, path: &Path, carried: &mut Carried) -> Result<(), BackendCause> {
         if !self.book.contains(path) && self.book.len() >= 128 {
