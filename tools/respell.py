@@ -15,7 +15,7 @@ import sys
 WORD = r"[^\W\d][\w'′]*(?:-[\w'′]+)*"
 TOKEN = re.compile(r"(?<![\w'-])" + WORD)
 DECLARED = re.compile(r"^(\s*)((?:(?:pub|abbrev|unfoldable|record|data|ruleset|mutual)\s+)*)(" + WORD + r")\s*(?=[:({]|where\b)")
-USE = re.compile(r"^\s*(?:pub\s+)?(?:ghost\s+)?(?:pub\s+)?use\s+([^;{]+?)(?:\.\{([^}]*)\})?\s*(?:as\s+(\S+?))?;?\s*$")
+USE = re.compile(r"^\s*(?:pub\s+)?(?:ghost\s+)?(?:pub\s+)?use\s+([^;{]+?)(?:\.\{([^}]*)\})?\s*;?\s*$")
 MADE = re.compile(r"\.(Goals|Given|declared|contracts)\b")
 
 
@@ -78,15 +78,13 @@ def imported(text, own):
         m = USE.match(line)
         if not m:
             continue
-        where, items, alias = m.groups()
+        where, items = m.groups()
         of_ours = re.match(r"Rattle\.(\w+)\.(specs|proofs)\b", where) and where.split(".")[1] in own and not MADE.search(where)
         for item in filter(None, (i.strip() for i in (items or "").split(","))):
             name, _, other_name = item.partition(" as ")
+            (mine if of_ours else other).add(name.strip())
             if other_name:
                 given.add(other_name.strip())
-            (mine if of_ours else other).add(name.strip())
-            if not other_name:
-                (mine if of_ours else other).add(name.strip())
     return mine, other, given
 
 
