@@ -1,5 +1,6 @@
 // Having the memory of all tables, once, and opening them afresh.
-ghost use Rattle.std.specs.Prelude.{◌≡◌};
+ghost use Rattle.std.specs.Prelude.{◌≡◌, false, [], IfOk};
+ghost use Rattle.rules.specs.declared.watcher_kind.WatcherKind.TheVariants.{Inotify};
 ghost use Rattle.paths.specs.Model.{names};
 ghost use Rattle.rules.specs.Calls.{fresh};
 ghost use Rattle.state.specs.Model.{model};
@@ -12,7 +13,9 @@ use tables::{Queue, Table};
 
 impl Inner {
     // The only place where memory can be wanting.
-    pub fn new(heap: Global) -> Result<Inner, AllocError> {
+    pub fn new(heap: Global) -> Result<Inner, AllocError>
+        ensures { IfOk result (λ s. model s ≡ fresh Inotify false []) }
+    {
         Ok(Inner {
             roots: Table::new(heap)?,
             logical: Table::new(heap)?,
