@@ -1,6 +1,7 @@
 -- What keeps a list ascending.
 use Rattle.std.proofs.Common.{◌≡◌, Bool, true, false, not, List, [], ◌∷◌, filter, refl, ◌∙◌, inl, inr, arith}
 use Rattle.std.proofs.lemmas.Bool.{cases_Bool}
+use Rattle.std.specs.List.{items_where_true}
 use Rattle.tables.specs.Lists.{any, every, changed, without, placed, ascends}
 
 module _ {X : Type 0} (p : X → Bool) where
@@ -9,6 +10,14 @@ module _ {X : Type 0} (p : X → Bool) where
   every_kept t (x ∷ xs) e =
       let b = cases_Bool (p x) in let q = cases_Bool (t x) in
       let i = every_kept t xs (grind arith) in
+      grind arith
+
+  pub every_where : (bs : List Bool) (xs : List X) → every p xs ≡ true → every p (items_where_true bs xs) ≡ true
+  every_where [] xs e = refl
+  every_where (b ∷ bs) [] e = refl
+  every_where (b ∷ bs) (x ∷ xs) e =
+      let q = cases_Bool (p x) in let c = cases_Bool b in
+      let i = every_where bs xs (grind arith) in
       grind arith
 
   pub every_without : (t : X → Bool) (xs : List X) → every p xs ≡ true → every p (without t xs) ≡ true
@@ -47,6 +56,15 @@ module _ {X : Type 0} (before : X → X → Bool) where
       let b = cases_Bool (every (before x) xs) in let q = cases_Bool (t x) in
       let i = ascends_kept t xs (grind arith) in
       let k = every_kept (before x) t xs (grind arith) in
+      grind arith
+
+  pub ascends_where : (bs : List Bool) (xs : List X) → ascends before xs ≡ true → ascends before (items_where_true bs xs) ≡ true
+  ascends_where [] xs e = refl
+  ascends_where (b ∷ bs) [] e = refl
+  ascends_where (b ∷ bs) (x ∷ xs) e =
+      let q = cases_Bool (every (before x) xs) in let c = cases_Bool b in
+      let i = ascends_where bs xs (grind arith) in
+      let k = every_where (before x) bs xs (grind arith) in
       grind arith
 
   pub ascends_without : (t : X → Bool) (xs : List X) → ascends before xs ≡ true → ascends before (without t xs) ≡ true

@@ -1,7 +1,4 @@
 pub mod Ascents
+pub mod Calls
 pub mod Entered
-pub mod Lent
-pub mod Lookups
-pub mod Places
-pub mod Seen
-pub mod Views
+pub mod Sought

@@ -1,5 +1,3 @@
 pub mod Entries
 pub mod Lists
-pub mod Order
 pub mod Room
-pub mod PathKeys

@@ -1,27 +1,8 @@
 -- What the methods of a bounded list answer of it, and what they make of it.
 use Rattle.std.specs.Prelude.{ℕ, ◌+◌, Bool, true, false, cond, List, [], ◌∷◌, Some, None, Option}
+pub use Rattle.std.specs.List.{list_any as any, list_all as every, find as first}
 
 module _ {X : Type 0} (test : X → Bool) where
-  -- whether an entry passes
-  abbrev pub any : List X → Bool
-  any [] = false
-  any (x ∷ xs) = cond (test x) true (any xs)
-
-  -- whether every entry passes
-  abbrev pub every : List X → Bool
-  every [] = true
-  every (x ∷ xs) = cond (test x) (every xs) false
-
-  -- the first entry that passes
-  abbrev pub first : List X → Option X
-  first [] = None
-  first (x ∷ xs) = cond (test x) (Some x) (first xs)
-
-  -- the place of the first entry that passes, counted from k
-  abbrev pub place : ℕ → List X → Option ℕ
-  place k [] = None
-  place k (x ∷ xs) = cond (test x) (Some k) (place (k + 1) xs)
-
   -- the first entry that passes is changed by f
   abbrev pub changed : (X → X) → List X → List X
   changed f [] = []

@@ -1,19 +1,24 @@
 // A table of at most N entries, whose memory is had once, so that no later call can fail for want of it.
-ghost use Rattle.std.specs.Prelude.{◌≤◌, vec_len, vec_capacity};
-
-use crate::keys::Entry;
+use crate::entry::Entry;
+use std::marker::Model;
 
 mod edits;
 mod lends;
 mod reads;
-mod room;
-mod sought;
 
-// A ghost field cannot name the order of K, so the methods say that they keep the entries ascending (`ascends`).
-// An owner whose keys have a known type states it in a ghost field of its own.
 #[derive(Drop)]
-pub struct Table<K, V, const N: usize> {
+pub struct Table<K: Ord, V, const N: usize> {
     items: Vec<Entry<K, V>>,
-    ghost few: { vec_len items ≤ N },
-    ghost room: { N ≤ vec_capacity items },
+}
+
+impl<K: Ord, V, const N: usize> Model for Table<K, V, N> {
+    ghost use Rattle.std.specs.Prelude.{◌≡◌, List, ◌≤◌, true, vec_len, vec_capacity};
+    ghost use Rattle.tables.specs.declared.entry.Entry.{Entry};
+    ghost use Rattle.tables.specs.Entries.{ascending};
+
+    ghost Value = { List (Entry K V) };
+
+    ghost view = { λ t. t.items.items };
+
+    ghost invariant = { λ t. (vec_len t.items ≤ N) × (N ≤ vec_capacity t.items) × (ascending K.cmp t.items.items ≡ true) };
 }

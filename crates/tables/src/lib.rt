@@ -2,18 +2,12 @@
 #![tactic(auto)]
 
 pub mod ascending;
-mod changes;
+pub mod entry;
 pub mod full;
-pub mod keys;
-pub mod orders;
-pub mod path_key;
-pub mod picks;
 mod search;
 pub mod waiting;
 
 pub use ascending::Table;
+pub use entry::Entry;
 pub use full::NoPlace;
-pub use keys::{Entry, Key};
-pub use orders::Before;
-pub use picks::Test;
 pub use waiting::Queue;

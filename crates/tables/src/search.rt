@@ -1,43 +1,36 @@
-// The one walk that every search of a list goes by.
-ghost use Rattle.std.specs.Prelude.{◌≡◌, ◌<◌, length, IfSome, filter};
+// Searches of a list by a test of the caller's.
+ghost use Rattle.std.specs.Prelude.{◌≡◌, ◌≤◌, length, filter};
+ghost use Rattle.std.specs.Fn.{ComputesKey};
 ghost use Rattle.std.specs.Option.{option_map};
-ghost use Rattle.std.specs.List.{slice_get as nth_of};
-ghost use Rattle.tables.specs.Lists.{any, place};
-
-use crate::picks::Test;
-
-// The place of the first entry that passes.
-pub(crate) fn find<T, P: Test<T>>(items: &[T], p: &P) -> Option<usize>
-    ensures value { result ≡ place (P.Test.passes p.now) 0 items.now }
-    ensures within { IfSome result (λ i. i < length items.now) }
-{
-    for (i, x) in items.iter().enumerate() {
-        if p.test(x) {
-            return Some(i);
-        }
-    }
-    None
-}
+ghost use Rattle.std.specs.List.{prefix_len, slice_get as nth_of};
+ghost use Rattle.tables.specs.Lists.{any};
 
 // Whether an entry passes.
-pub(crate) fn passes<T, P: Test<T>>(items: &[T], p: &P) -> bool
-    ensures { result ≡ any (P.Test.passes p.now) items.now }
+pub(crate) fn any<T, F: Fn(&T) -> bool>(items: &[T], passes: F) -> bool
+    requires { F.IsAlwaysCallable passes }
+    ensures { (test : _) → ComputesKey F.Fn test passes → result ≡ any test items.now }
 {
-    find(items, p).is_some()
+    items.iter().any(passes)
 }
 
 // The entry of that number, from 0, among those that pass.
-pub(crate) fn nth<'a, T, P: Test<T>>(items: &'a [T], p: &P, number: usize) -> Option<&'a T>
-    ensures { option_map (λ x. x.now) result ≡ nth_of (filter (P.Test.passes p.now) items.now) number }
+pub(crate) fn nth<'a, T, F: Fn(&T) -> bool>(
+    items: &'a [T],
+    passes: F,
+    number: usize,
+) -> Option<&'a T>
+    requires { F.IsAlwaysCallable passes }
+    ensures { (test : _) → ComputesKey F.Fn test passes → option_map (λ x. x.now) result ≡ nth_of (filter test items.now) number }
 {
-    let mut left = number;
-    for x in items {
-        if p.test(x) {
-            if left == 0 {
-                return Some(x);
-            }
-            left -= 1;
-        }
-    }
-    None
+    items.iter().filter(|x| passes(x)).nth(number)
+}
+
+// How many entries pass before the first that does not.
+pub(crate) fn leading<T, F: Fn(&T) -> bool>(items: &[T], passes: F) -> usize
+    requires { F.IsAlwaysCallable passes }
+    ensures value { (test : _) → ComputesKey F.Fn test passes → result ≡ prefix_len test items.now }
+    ensures within { result ≤ length items.now }
+{
+    let end = items.iter().position(|x| !passes(x));
+    end.unwrap_or(items.len())
 }

@@ -1,60 +1,79 @@
 // What a table answers of its entries.
-ghost use Rattle.std.specs.Prelude.{◌≡◌, length, filter, ◌==◌};
+ghost use Rattle.std.specs.Prelude.{◌≡◌, true, length, filter, if◌then◌else◌, nat_lt, ◌==◌};
+ghost use Rattle.std.specs.Fn.{ComputesKey};
 ghost use Rattle.std.specs.Option.{option_map};
 ghost use Rattle.std.specs.List.{slice_get as nth_of};
-ghost use Rattle.tables.specs.Entries.{held, under};
+ghost use Rattle.tables.specs.Entries.{held, sought, under};
 ghost use Rattle.tables.specs.Lists.{any};
 
 use super::Table;
-use super::sought::Under;
-use crate::keys::{Entry, Key};
-use crate::picks::Test;
-use crate::search::{find, nth, passes};
+use crate::entry::Entry;
+use crate::search;
 
-impl<K: Key + Copy, V: Copy, const N: usize> Table<K, V, N> {
+impl<K: Ord + Copy, V: Copy, const N: usize> Table<K, V, N> {
     pub fn len(&self) -> usize
-        ensures { result ≡ length self.now.items.items }
+        ensures { result ≡ length self.now }
     {
         self.items.len()
     }
 
     pub fn is_empty(&self) -> bool
-        ensures { result ≡ (length self.now.items.items == 0) }
+        ensures { result ≡ (length self.now == 0) }
     {
         self.items.is_empty()
     }
 
     pub fn entries(&self) -> &[Entry<K, V>]
-        ensures { result.now ≡ self.now.items.items }
+        ensures { result.now ≡ self.now }
     {
-        self.items.as_slice()
+        &self.items
+    }
+
+    // The place of the entry under the key, or where it would be put.
+    pub(super) fn search(&self, key: &K) -> Result<usize, usize>
+        ensures { result ≡ sought K.cmp key.now self.now }
+    {
+        self.items.binary_search_by(|e| e.key.cmp(key))
     }
 
     pub fn get(&self, key: &K) -> Option<&V>
-        ensures { option_map (λ x. x.now) result ≡ held K.Key.same key.now self.now.items.items }
+        ensures { option_map (λ x. x.now) result ≡ held K.cmp key.now self.now }
     {
-        match find(&self.items, &Under { key: *key }) {
-            Some(i) => Some(&self.items[i].value),
-            None => None,
+        match self.search(key) {
+            Ok(at) => Some(&self.items[at].value),
+            Err(_) => None,
         }
     }
 
     pub fn contains_key(&self, key: &K) -> bool
-        ensures { result ≡ any (under K.Key.same key.now) self.now.items.items }
+        ensures { result ≡ any (under K.cmp key.now) self.now }
     {
-        passes(&self.items, &Under { key: *key })
+        self.search(key).is_ok()
+    }
+
+    // Its own place, or a free one.
+    pub fn has_place(&self, key: &K) -> bool
+        ensures { result ≡ (if any (under K.cmp key.now) self.now then true else nat_lt (length self.now) N) }
+    {
+        self.contains_key(key) || self.items.len() < N
     }
 
     // The entry of that number, from 0, among those that pass.
-    pub fn nth<P: Test<Entry<K, V>>>(&self, p: &P, number: usize) -> Option<&Entry<K, V>>
-        ensures { option_map (λ x. x.now) result ≡ nth_of (filter (P.Test.passes p.now) self.now.items.items) number }
+    pub fn nth<F: Fn(&Entry<K, V>) -> bool>(
+        &self,
+        passes: F,
+        number: usize,
+    ) -> Option<&Entry<K, V>>
+        requires { F.IsAlwaysCallable passes }
+        ensures { (test : _) → ComputesKey F.Fn test passes → option_map (λ x. x.now) result ≡ nth_of (filter test self.now) number }
     {
-        nth(&self.items, p, number)
+        search::nth(&self.items, passes, number)
     }
 
-    pub fn any<P: Test<Entry<K, V>>>(&self, p: &P) -> bool
-        ensures { result ≡ any (P.Test.passes p.now) self.now.items.items }
+    pub fn any<F: Fn(&Entry<K, V>) -> bool>(&self, passes: F) -> bool
+        requires { F.IsAlwaysCallable passes }
+        ensures { (test : _) → ComputesKey F.Fn test passes → result ≡ any test self.now }
     {
-        passes(&self.items, p)
+        search::any(&self.items, passes)
     }
 }

@@ -1,27 +1,25 @@
 // What changes a queue's entries.
 ghost use Rattle.std.specs.Prelude.{◌≡◌, not, [], ◌∷◌, ◌++◌, IfOk, filter};
+ghost use Rattle.std.specs.Fn.{ComputesKey};
 ghost use Rattle.tables.specs.Lists.{head, placed, tail};
 ghost use Rattle.tables.specs.Room.{fitted};
 
 use super::Queue;
-use super::past::Past;
-use crate::changes::{put_before, retain};
 use crate::full::NoPlace;
-use crate::orders::Before;
-use crate::picks::Test;
+use crate::search;
 use std::alloc::{AllocError, Global};
 
 impl<T: Copy, const N: usize> Queue<T, N> {
     pub fn new(heap: Global) -> Result<Self, AllocError>
-        ensures { IfOk result (λ q. q.items.items ≡ []) }
+        ensures { IfOk result (λ q. q ≡ []) }
     {
         let items = Vec::with_capacity(heap, N)?;
         Ok(Queue { items })
     }
 
     pub fn push_back(&mut self, x: T) -> Result<(), NoPlace>
-        ensures value { result ≡ (fitted N self.old.items.items (self.old.items.items ++ x ∷ [])).0 }
-        ensures items { self.new.items.items ≡ (fitted N self.old.items.items (self.old.items.items ++ x ∷ [])).1 }
+        ensures value { result ≡ (fitted N self.old (self.old ++ x ∷ [])).0 }
+        ensures items { self.new ≡ (fitted N self.old (self.old ++ x ∷ [])).1 }
     {
         if self.items.len() >= N {
             return Err(NoPlace);
@@ -31,8 +29,8 @@ impl<T: Copy, const N: usize> Queue<T, N> {
     }
 
     pub fn push_front(&mut self, x: T) -> Result<(), NoPlace>
-        ensures value { result ≡ (fitted N self.old.items.items (x ∷ self.old.items.items)).0 }
-        ensures items { self.new.items.items ≡ (fitted N self.old.items.items (x ∷ self.old.items.items)).1 }
+        ensures value { result ≡ (fitted N self.old (x ∷ self.old)).0 }
+        ensures items { self.new ≡ (fitted N self.old (x ∷ self.old)).1 }
     {
         if self.items.len() >= N {
             return Err(NoPlace);
@@ -41,21 +39,23 @@ impl<T: Copy, const N: usize> Queue<T, N> {
         Ok(())
     }
 
-    // Puts x before the first entry that is not before it.
-    pub fn insert<O: Before<T>>(&mut self, x: T, order: &O) -> Result<(), NoPlace>
-        ensures value { result ≡ (fitted N self.old.items.items (placed (λ y. not (O.Before.before order.now y x)) x self.old.items.items)).0 }
-        ensures items { self.new.items.items ≡ (fitted N self.old.items.items (placed (λ y. not (O.Before.before order.now y x)) x self.old.items.items)).1 }
+    // Puts x behind the leading entries that come before it.
+    pub fn insert<F: Fn(&T) -> bool>(&mut self, x: T, is_before: F) -> Result<(), NoPlace>
+        requires { F.IsAlwaysCallable is_before }
+        ensures value { (test : _) → ComputesKey F.Fn test is_before → result ≡ (fitted N self.old (placed (λ y. not (test y)) x self.old)).0 }
+        ensures items { (test : _) → ComputesKey F.Fn test is_before → self.new ≡ (fitted N self.old (placed (λ y. not (test y)) x self.old)).1 }
     {
         if self.items.len() >= N {
             return Err(NoPlace);
         }
-        put_before(&mut self.items, x, &Past { x, order });
+        let at = search::leading(&self.items, is_before);
+        let _ = self.items.insert(at, x);
         Ok(())
     }
 
     pub fn pop_front(&mut self) -> Option<T>
-        ensures value { result ≡ head self.old.items.items }
-        ensures items { self.new.items.items ≡ tail self.old.items.items }
+        ensures value { result ≡ head self.old }
+        ensures items { self.new ≡ tail self.old }
     {
         if self.items.is_empty() {
             return None;
@@ -63,14 +63,15 @@ impl<T: Copy, const N: usize> Queue<T, N> {
         Some(self.items.remove(0))
     }
 
-    pub fn retain<P: Test<T>>(&mut self, p: &P)
-        ensures { self.new.items.items ≡ filter (P.Test.passes p.now) self.old.items.items }
+    pub fn retain<F: Fn(&T) -> bool>(&mut self, keep: F)
+        requires { F.IsAlwaysCallable keep }
+        ensures { (test : _) → ComputesKey F.Fn test keep → self.new ≡ filter test self.old }
     {
-        retain(&mut self.items, p);
+        self.items.retain(keep);
     }
 
     pub fn clear(&mut self)
-        ensures { self.new.items.items ≡ [] }
+        ensures { self.new ≡ [] }
     {
         self.items.clear();
     }

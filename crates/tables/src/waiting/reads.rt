@@ -1,43 +1,40 @@
 // What a queue answers of its entries.
 ghost use Rattle.std.specs.Prelude.{◌≡◌, length, ◌==◌};
 ghost use Rattle.std.specs.Option.{option_map};
+ghost use Rattle.std.specs.Fn.{ComputesKey};
 ghost use Rattle.tables.specs.Lists.{any, head};
 
 use super::Queue;
-use crate::picks::Test;
-use crate::search::passes;
 
 impl<T: Copy, const N: usize> Queue<T, N> {
     pub fn len(&self) -> usize
-        ensures { result ≡ length self.now.items.items }
+        ensures { result ≡ length self.now }
     {
         self.items.len()
     }
 
     pub fn is_empty(&self) -> bool
-        ensures { result ≡ (length self.now.items.items == 0) }
+        ensures { result ≡ (length self.now == 0) }
     {
         self.items.is_empty()
     }
 
     pub fn entries(&self) -> &[T]
-        ensures { result.now ≡ self.now.items.items }
+        ensures { result.now ≡ self.now }
     {
-        self.items.as_slice()
+        &self.items
     }
 
     pub fn first(&self) -> Option<&T>
-        ensures { option_map (λ x. x.now) result ≡ head self.now.items.items }
+        ensures { option_map (λ x. x.now) result ≡ head self.now }
     {
-        if self.is_empty() {
-            return None;
-        }
-        Some(&self.items[0])
+        self.items.first()
     }
 
-    pub fn any<P: Test<T>>(&self, p: &P) -> bool
-        ensures { result ≡ any (P.Test.passes p.now) self.now.items.items }
+    pub fn any<F: Fn(&T) -> bool>(&self, passes: F) -> bool
+        requires { F.IsAlwaysCallable passes }
+        ensures { (test : _) → ComputesKey F.Fn test passes → result ≡ any test self.now }
     {
-        passes(&self.items, p)
+        self.items.iter().any(passes)
     }
 }
