@@ -4,8 +4,6 @@ use Rattle.std.specs.Cmp.{IsPartialEquivalence, both_ways}
 use Rattle.std.proofs.Common.{eqb, Decides, sym, ap, ◌∙◌, arith}
 use Rattle.std.proofs.lemmas.Bool.{and_parts, and_from, eqb-true, eq-eqb}
 use Rattle.paths.specs.Names.{Names, same_name, same_path}
-use Rattle.paths.specs.Model.{names}
-use Rattle.paths.specs.declared.path.Path.{Path}
 
 same_name_true : (a b : List ℕ) → same_name a b ≡ true → a ≡ b
 same_name_true [] [] h = refl
@@ -42,8 +40,8 @@ same_path_turned : (p q : Names) → same_path p q ≡ true → same_path q p �
 same_path_turned p q h = ap (same_path q) (same_path_true p q h) ∙ same_path_same q
 
 -- What equality of two paths as values owes.
-pub path_eq_laws : IsPartialEquivalence (λ (p q : Path). same_path (names p) (names q))
+pub path_eq_laws : IsPartialEquivalence same_path
 path_eq_laws = record {
-  symm = λ x y. both_ways (same_path (names x) (names y)) (same_path (names y) (names x)) (same_path_turned (names x) (names y)) (same_path_turned (names y) (names x));
-  trans = λ x y z e f. ap (λ p. same_path p (names z)) (same_path_true (names x) (names y) e) ∙ f;
+  symm = λ x y. both_ways (same_path x y) (same_path y x) (same_path_turned x y) (same_path_turned y x);
+  trans = λ x y z e f. ap (λ p. same_path p z) (same_path_true x y e) ∙ f;
 }

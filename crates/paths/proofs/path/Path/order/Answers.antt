@@ -1,14 +1,16 @@
-use Rattle.std.proofs.Common.{◌∙◌}
-use native.Mathlib.Nat.{sub-zero}
-use Rattle.paths.proofs.Orders.{order_sealed}
+use Rattle.std.proofs.Common.{ap₂, ◌∙◌}
+use Rattle.paths.specs.Bytes.{keyed}
+use Rattle.paths.specs.Order.{order_path}
+use Rattle.paths.proofs.Orders.{keyed_render}
 use Rattle.paths.proofs.Totals.{total_path, above_first}
-use Rattle.paths.specs.Model.{names, spelling}
 use Rattle.paths.proofs.path.Path.order.Goals as goal
 
 pub returns : goal.returns
-unfolding names spelling
-returns c = record {
-  value = c.order.ensures ∙ order_sealed 64 c.args.self.now.text c.args.other.now.text _ _ c.args.self.now.len c.args.other.now.len _ _ c.args.self.now.ok c.args.other.now.ok (sub-zero _) (sub-zero _);
-  laws = total_path;
-  first = above_first;
-}
+returns c =
+    let a = c.bytes.ensures in
+    let b = c.bytes-2.ensures in
+    record {
+      value = c.order.ensures ∙ (ap₂ keyed a.value b.value ∙ keyed_render c.self.inside.spelled c.other.inside.spelled a.good b.good ∙ ap₂ order_path c.self.view_is c.other.view_is);
+      laws = total_path;
+      first = above_first;
+    }
