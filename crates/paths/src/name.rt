@@ -1,4 +1,5 @@
 // A name as a value: what may stand between two slashes, as long as a file system lets a name be.
+pub mod compared;
 pub mod methods;
 
 use std::marker::Model;

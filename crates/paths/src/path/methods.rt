@@ -7,7 +7,6 @@ ghost use Rattle.paths.specs.Laws.{ReadsBack, PartialOrder, TotalOrder, AboveFir
 ghost use Rattle.paths.specs.Model.{numbered, replied, placed};
 
 use super::Path;
-use crate::bytes;
 use crate::name::Name;
 use crate::refusal::Refusal;
 use crate::spelled::Spelled;
@@ -91,6 +90,6 @@ impl Path {
         ensures laws { TotalOrder order_path }
         ensures first { AboveFirst }
     {
-        bytes::order(self.spelled.bytes(), other.spelled.bytes())
+        self.cmp(other)
     }
 }
