@@ -3,7 +3,6 @@ pub mod Walks
 pub mod Spells
 pub mod Orders
 pub mod Parts
-pub mod Limits
 pub mod Totals
 pub mod Below
 pub mod Normals

@@ -1,10 +1,10 @@
 -- A normal form has nothing but names, and its text reads back.
-use Rattle.std.proofs.Common.{◌≡◌, ◌+◌, ◌<◌, true, false, not, eqb, ltb, leb, List, [], ◌∷◌, ◌++◌, length, Some, None, Option, sym, refl, ap, ◌∙◌, arith}
-use Rattle.std.proofs.lemmas.List.{append_assoc, append-nil}
+use Rattle.std.proofs.Common.{◌≡◌, ◌<◌, true, false, not, eqb, ltb, leb, List, [], ◌∷◌, ◌++◌, length, reverse, Some, None, Option, sym, refl, ap, ◌∙◌, arith}
+use Rattle.std.proofs.lemmas.List.{append_assoc, append-nil, length-reverse}
 use Rattle.std.proofs.lemmas.Bool.{and_parts, cases_Bool, cond-true, cond-false}
 use Rattle.std.proofs.lemmas.Bool.Decides.{nat_tests}
 use Rattle.paths.specs.Names.{Name, Names, Text, render, text, plain, dots, named, good, within}
-use Rattle.paths.specs.Order.{outward}
+use mathlib.Core.List.{reverse_aux}
 use Rattle.paths.specs.Texts.{parts, walk, walked, below_root, walked_from, normalised, zeroless, limited}
 use Rattle.paths.specs.Laws.{NormalForm, ReadsBack}
 use Rattle.paths.proofs.Renders.{plains, parts_plain}
@@ -32,7 +32,7 @@ normal_good cwd t g z = from_good (below_root t) cwd t refl g z
 walk_down : (p : Names) (n : Name) → named n ≡ true → walk p n ≡ n ∷ p
 walk_down p n h = let b = and_parts (plain n) (not (dots n)) h in let d = cases_Bool (dots n) in grind arith
 
-walked_out : (p acc : Names) → good p ≡ true → walked [] (outward acc p) ≡ walked p acc
+walked_out : (p acc : Names) → good p ≡ true → walked [] (reverse_aux p acc) ≡ walked p acc
 walked_out [] acc g = refl
 walked_out (n ∷ p) acc g =
     let b = and_parts (named n) (good p) g in
@@ -55,15 +55,11 @@ normal_spell (n ∷ ns) below h l =
     let b = and_parts (plain n) (plains ns) h in
     ap (walked []) (parts_spell ns n [] b.0 b.1)
 
-length_out : (p acc : Names) → length (outward acc p) ≡ length p + length acc
-length_out [] acc = omega arith
-length_out (n ∷ p) acc = let i = length_out p (n ∷ acc) in omega arith
-
 pub normal_text : (p below : Names) → good p ≡ true → normalised below (text p) ≡ p
 normal_text [] below g = refl
 normal_text (n ∷ p) below g =
-    let l = length_out (n ∷ p) [] in
-    ap (normalised below) (render_spell (n ∷ p)) ∙ (normal_spell (outward [] (n ∷ p)) below (plains_out (n ∷ p) [] g refl) (omega arith) ∙ walked_out (n ∷ p) [] g)
+    let l = length-reverse (n ∷ p) in
+    ap (normalised below) (render_spell (n ∷ p)) ∙ (normal_spell (reverse (n ∷ p)) below (plains_out (n ∷ p) [] g refl) (omega arith) ∙ walked_out (n ∷ p) [] g)
 
 pub normal_form : NormalForm
 normal_form cwd t g z =

@@ -1,15 +1,15 @@
 -- The order of the texts, a slash lowest, is that of the names.
-use Rattle.std.proofs.Common.{◌≡◌, ℕ, ◌+◌, ◌<◌, ◌≤◌, true, ltb, List, [], ◌∷◌, ◌++◌, length, get_or, take, drop, Less, Equal, Greater, refl, ap, ◌∙◌, arith}
+use Rattle.std.proofs.Common.{◌≡◌, ℕ, ◌+◌, ◌<◌, ◌≤◌, true, ltb, List, [], ◌∷◌, ◌++◌, length, reverse, get_or, drop, Less, Equal, Greater, refl, ap, ◌∙◌, arith}
 use Rattle.std.proofs.lemmas.List.{drop_more, drop_all}
 use Rattle.std.proofs.lemmas.Bool.{and_parts, cases_Bool}
 use Rattle.std.proofs.lemmas.Bool.Decides.{nat_tests}
-use Rattle.paths.proofs.Walks.{text_of}
 use Rattle.paths.specs.Names.{Name, Names, render, plain, good}
 use Rattle.paths.proofs.Renders.{plains}
 use Rattle.paths.proofs.Spells.{spell, render_spell, plains_out}
-use Rattle.paths.specs.Bytes.{parse, Sound, keyed}
+use Rattle.paths.specs.Bytes.{keyed}
 use Rattle.std.specs.Ordering.{ordering_then}
-use Rattle.paths.specs.Order.{order_name, order_by, outward, order_path}
+use Rattle.std.specs.Cmp.Lexicographic.{slice_cmp}
+use Rattle.paths.specs.Order.{order_name, order_path}
 
 keyed_names : (n m : Name) (p q : List Name) → plain n ≡ true → plain m ≡ true → keyed (n ++ spell p) (m ++ spell q) ≡ ordering_then (order_name n m) (keyed (spell p) (spell q))
 keyed_names [] [] p q g h = refl
@@ -23,7 +23,7 @@ keyed_names (a ∷ n) (b ∷ m) p q g h =
     let r = cases_Bool (ltb b a) in
     grind (arith, nat_tests)
 
-keyed_spell : (p q : List Name) → plains p ≡ true → plains q ≡ true → keyed (spell p) (spell q) ≡ order_by order_name p q
+keyed_spell : (p q : List Name) → plains p ≡ true → plains q ≡ true → keyed (spell p) (spell q) ≡ slice_cmp order_name p q
 keyed_spell [] [] g h = refl
 keyed_spell [] (m ∷ q) g h = refl
 keyed_spell (n ∷ p) [] g h = refl
@@ -34,11 +34,7 @@ keyed_spell (n ∷ p) (m ∷ q) g h =
 
 pub keyed_render : (p q : Names) → good p ≡ true → good q ≡ true → keyed (render p) (render q) ≡ order_path p q
 keyed_render p q g h =
-    ap (λ t. keyed t (render q)) (render_spell p) ∙ (ap (keyed (spell (outward [] p))) (render_spell q) ∙ keyed_spell (outward [] p) (outward [] q) (plains_out p [] g refl) (plains_out q [] h refl))
-
-pub order_sealed : (size : ℕ) (t u : List ℕ) (i j len m d e : ℕ) → Sound size t len d → Sound size u m e → i ≡ len → j ≡ m → keyed (take i t) (take j u) ≡ order_path (parse (take len t)) (parse (take m u))
-order_sealed size t u i j len m d e s v f g =
-    ap (λ x. keyed (take x t) (take j u)) f ∙ (ap (λ y. keyed (take len t) (take y u)) g ∙ (ap (λ x. keyed x (take m u)) (text_of size t len d s) ∙ (ap (keyed (render (parse (take len t)))) (text_of size u m e v) ∙ keyed_render (parse (take len t)) (parse (take m u)) s.4 v.4)))
+    ap (λ t. keyed t (render q)) (render_spell p) ∙ (ap (keyed (spell (reverse p))) (render_spell q) ∙ keyed_spell (reverse p) (reverse q) (plains_out p [] g refl) (plains_out q [] h refl))
 
 pub keyed_more : (t u : List ℕ) (k : ℕ) → k < length t → k < length u → keyed (drop k t) (drop k u) ≡ keyed (get_or t k 0 ∷ drop (k + 1) t) (get_or u k 0 ∷ drop (k + 1) u)
 keyed_more t u k a b = ap (λ x. keyed x (drop k u)) (drop_more t k 0 a) ∙ ap (keyed (get_or t k 0 ∷ drop (k + 1) t)) (drop_more u k 0 b)

@@ -1,11 +1,11 @@
 -- The text of a path says its names, and the other way round.
 use Rattle.std.proofs.Common.{◌≡◌, ℕ, ◌+◌, ◌-◌, ◌<◌, ◌≤◌, Bool, true, false, cond, ◌&&◌, eqb, leb, List, [], ◌∷◌, ◌++◌, length, take, drop, set, replicate, sym, refl, ap, ◌∙◌, subst, arith}
-use Rattle.std.proofs.lemmas.List.{append-nil, append_assoc, take_at, drop_at, drop-drop, take_more_set, take_all, drop_all, drop-set-lt, drop-replicate, length-append, length-replicate, length-take-le, replicate-append-replicate}
+use Rattle.std.proofs.lemmas.List.{append-nil, append_assoc, take_at, drop_at, drop-drop, take_more_set, take_all, drop_all, drop-set-lt, drop-replicate, length-append, length-replicate}
 use Rattle.std.proofs.lemmas.Slice.{put_mid-paste}
 use borrow.Rule.Slice.PartMut.{put_mid}
 use Rattle.std.proofs.lemmas.Bool.{and_parts, and_from, cases_Bool, cond-true, le-leb}
 use Rattle.paths.specs.Names.{Name, Text, Names, render, plain, named, good, up}
-use Rattle.paths.specs.Bytes.{byte, grow, parse, padded, Holds, Sound, grown, trimmed, last_slash}
+use Rattle.paths.specs.Bytes.{byte, grow, parse, filled, padded, Holds, Sound, grown, trimmed, last_slash}
 use Rattle.paths.specs.Texts.{zeroless, parts, parts_from}
 
 -- no part has a slash or a zero byte
@@ -91,61 +91,6 @@ holds_child size text len depth p n h m lt =
     let d = h.3 in
     (e, omega arith, omega arith, omega arith, and_from (named n) (good p) m h.4)
 
-pub holds_parent : (size : ℕ) (text : List ℕ) (len depth k : ℕ) (p : Names) → Holds size text len depth p → 0 < depth → k ≡ last_slash (take len text) 0 0 → Holds size (trimmed text k) k (depth - 1) (up p)
-holds_parent size text len depth k [] h d e = let x = h.3 in absurd (omega arith)
-holds_parent size text len depth k (n ∷ p) h d e =
-    let both = and_parts (named n) (good p) h.4 in
-    let mine = and_parts (plain n) _ both.0 in
-    let long = length-append (render p) (47 ∷ n) in
-    let l = h.1 in
-    let w = h.2 in
-    let x = h.3 in
-    let cut : take len text ≡ render (n ∷ p) = ap (take len) h.0 ∙ take_at (render (n ∷ p)) _ len (sym l) in
-    let q : k ≡ 0 + length (render p) = e ∙ (ap (λ t. last_slash t 0 0) cut ∙ ls_slash (render p) n 0 0 mine.0) in
-    let r : k ≡ length (render p) = omega arith in
-    (ap (λ t. trimmed t k) h.0 ∙ (ap (λ j. trimmed (padded size (n ∷ p)) j) r ∙ trimmed_padded size p n (omega arith)), r, omega arith, omega arith, both.1)
-
--- that length of the text fits where the path has a name
-pub slash_within : (size : ℕ) (text : List ℕ) (len depth k : ℕ) (p : Names) → Holds size text len depth p → 0 < depth → k ≡ last_slash (take len text) 0 0 → k ≤ length text
-slash_within size text len depth k p h d e =
-    let q = (holds_parent size text len depth k p h d e).2 in
-    let w = h.2 in
-    let l = h.1 in
-    let f = ap length h.0 ∙ length_padded size p (omega arith) in
-    omega arith
-
-pub child_sealed : (size : ℕ) (text after : List ℕ) (len depth : ℕ) (n : Name) → Sound size text len depth → after ≡ grown text len n → named n ≡ true → len + length n < size →
-    (parse (take (len + 1 + length n) after) ≡ n ∷ parse (take len text)) × Sound size after (len + 1 + length n) (depth + 1)
-child_sealed size text after len depth n s e m lt =
-    let h = holds_child size text len depth (parse (take len text)) n s m lt in
-    seal size after (len + 1 + length n) (depth + 1) (n ∷ parse (take len text)) (e ∙ h.0, h.1, h.2, h.3, h.4)
-
-pub parent_sealed : (size : ℕ) (text after : List ℕ) (len depth k : ℕ) → Sound size text len depth → after ≡ trimmed text k → 0 < depth → k ≡ last_slash (take len text) 0 0 →
-    (parse (take k after) ≡ up (parse (take len text))) × Sound size after k (depth - 1)
-parent_sealed size text after len depth k s e d f =
-    let h = holds_parent size text len depth k (parse (take len text)) s d f in
-    seal size after k (depth - 1) (up (parse (take len text))) (e ∙ h.0, h.1, h.2, h.3, h.4)
-
-pub widened : (small size : ℕ) (p : Names) → length (render p) ≤ small → small ≤ size → padded size p ≡ padded small p ++ replicate (size - small) 0
-widened small size p a b =
-    let i : size - length (render p) ≡ (small - length (render p)) + (size - small) = omega arith in
-    ap (λ k. render p ++ replicate k 0) i ∙ (ap (λ z. render p ++ z) (sym (replicate-append-replicate {A = ℕ} (small - length (render p)) (size - small) 0)) ∙ sym (append_assoc (render p) _ _))
-
-pub wide_sealed : (small size : ℕ) (text after : List ℕ) (len depth : ℕ) → small ≤ size → Sound small text len depth → after ≡ text ++ replicate (size - small) 0 →
-    (parse (take len after) ≡ parse (take len text)) × Sound size after len depth
-wide_sealed small size text after len depth le s e =
-    let l = s.1 in
-    let w = s.2 in
-    let p = parse (take len text) in
-    seal size after len depth (parse (take len text)) (e ∙ (ap (λ t. t ++ replicate (size - small) 0) s.0 ∙ sym (widened small size (parse (take len text)) (omega arith) le)), s.1, omega arith, s.3, s.4)
-
-pub narrow_sealed : (small size : ℕ) (text after : List ℕ) (len depth : ℕ) → small ≤ size → len ≤ small → Sound size text len depth → after ≡ take small text →
-    (parse (take len after) ≡ parse (take len text)) × Sound small after len depth
-narrow_sealed small size text after len depth le f s e =
-    let l = s.1 in
-    let m : length (render (parse (take len text))) ≤ small = omega arith in
-    seal small after len depth (parse (take len text)) (e ∙ (ap (take small) (s.0 ∙ widened small size (parse (take len text)) m le) ∙ take_at (padded small (parse (take len text))) _ small (length_padded small (parse (take len text)) m)), s.1, f, s.3, s.4)
-
 plain_more : (n : Name) (b : ℕ) → plain n ≡ true → (eqb b 47 ≡ false) → eqb b 0 ≡ false → plain (n ++ b ∷ []) ≡ true
 plain_more [] b h f g = grind arith
 plain_more (x ∷ n) b h f g = let i = plain_more n b in grind arith
@@ -159,13 +104,51 @@ parts_plain (b ∷ text) cur z h =
     let t = cases_Bool (eqb b 47) in
     grind (arith, and_from)
 
-pub parent_shorter : (size : ℕ) (text : List ℕ) (len depth k : ℕ) (p : Names) → Holds size text len depth p → 0 < depth → k ≡ last_slash (take len text) 0 0 → k ≤ len
-parent_shorter size text len depth k [] h d e = let x = h.3 in absurd (omega arith)
-parent_shorter size text len depth k (n ∷ p) h d e =
-    let q = (holds_parent size text len depth k (n ∷ p) h d e).1 in
+pub holds_parent : (size : ℕ) (text : List ℕ) (len depth k : ℕ) (p : Names) → Holds size text len depth p → 0 < depth → k ≡ last_slash (render p) 0 0 → Holds size (trimmed text k) k (depth - 1) (up p)
+holds_parent size text len depth k [] h d e = let x = h.3 in absurd (omega arith)
+holds_parent size text len depth k (n ∷ p) h d e =
+    let both = and_parts (named n) (good p) h.4 in
+    let mine = and_parts (plain n) _ both.0 in
     let long = length-append (render p) (47 ∷ n) in
     let l = h.1 in
-    omega arith
+    let w = h.2 in
+    let x = h.3 in
+    let q : k ≡ 0 + length (render p) = e ∙ ls_slash (render p) n 0 0 mine.0 in
+    let r : k ≡ length (render p) = omega arith in
+    (ap (λ t. trimmed t k) h.0 ∙ (ap (λ j. trimmed (padded size (n ∷ p)) j) r ∙ trimmed_padded size p n (omega arith)), r, omega arith, omega arith, both.1)
+
+-- what such bytes are known to hold, they hold
+held : (size : ℕ) (text : List ℕ) (len depth : ℕ) (p : Names) → Sound size text len depth → parse (take len text) ≡ p → Holds size text len depth p
+held size text len depth p s e = subst (λ x. Holds size text len depth x) e s
+
+pub pushed : (size : ℕ) (text after : List ℕ) (len depth : ℕ) (p : Names) (n : Name) → Sound size text len depth → parse (take len text) ≡ p → after ≡ grown text len n → named n ≡ true → length (render p) + length n < size →
+    (parse (take (len + (1 + length n)) after) ≡ n ∷ p) × Sound size after (len + (1 + length n)) (depth + 1)
+pushed size text after len depth p n s v e m lt =
+    let held = held size text len depth p s v in
+    let l = held.1 in
+    let h = holds_child size text len depth p n held m (omega arith) in
+    let j = h.1 in
+    let w = h.2 in
+    seal size after (len + (1 + length n)) (depth + 1) (n ∷ p) (e ∙ h.0, omega arith, omega arith, h.3, h.4)
+
+pub popped : (size : ℕ) (text after : List ℕ) (len depth k : ℕ) (p : Names) → Sound size text len depth → parse (take len text) ≡ p → after ≡ trimmed text k → 0 < depth → k ≡ last_slash (render p) 0 0 →
+    (parse (take k after) ≡ up p) × Sound size after k (depth - 1)
+popped size text after len depth k p s v e d f =
+    let h = holds_parent size text len depth k p (held size text len depth p s v) d f in
+    seal size after k (depth - 1) (up p) (e ∙ h.0, h.1, h.2, h.3, h.4)
+
+-- the last slash lies within the text
+pub slash_within : (size : ℕ) (text : List ℕ) (len depth k : ℕ) (p : Names) → Sound size text len depth → parse (take len text) ≡ p → 0 < depth → k ≡ last_slash (render p) 0 0 → k ≤ size
+slash_within size text len depth k p s v d f = (holds_parent size text len depth k p (held size text len depth p s v) d f).2
+
+-- a text over the front of zeros
+pub filled_is : (size : ℕ) (t u : Text) → u ≡ t → t ++ drop (length t) (replicate size 0) ≡ filled size u
+filled_is size t u e = ap (λ x. t ++ x) (drop-replicate (length t) size 0) ∙ ap (filled size) (sym e)
+
+pub copied : (size : ℕ) (text after : List ℕ) (len depth : ℕ) (p : Names) → good p ≡ true → len ≡ length (render p) → len ≤ size → depth ≡ length p → text ≡ render p → after ≡ text ++ drop (length text) (replicate size 0) →
+    (parse (take len after) ≡ p) × Sound size after len depth
+copied size text after len depth p g l w d t e =
+    seal size after len depth p (e ∙ (filled_is size text text refl ∙ ap (filled size) t), l, w, d, g)
 
 pub depth_below : (p : Names) → length p ≤ length (render p)
 depth_below [] = omega arith
@@ -177,24 +160,6 @@ copied_is to ys zs k e f =
     let t = take_all (length zs) zs (omega arith) in
     let z : 0 + length zs ≡ length zs = omega arith in
     a ∙ (ap (λ x. x ++ drop (0 + length zs) to) t ∙ ap (λ i. zs ++ drop i to) z)
-
-pub long : (size : ℕ) (text : List ℕ) (len depth : ℕ) → Sound size text len depth → length text ≡ size
-long size text len depth s =
-    let l = s.1 in
-    let w = s.2 in
-    ap length s.0 ∙ length_padded size (parse (take len text)) (omega arith)
-
-pub wide_copied : (small size : ℕ) (text after : List ℕ) (len depth : ℕ) → small ≤ size → Sound small text len depth → after ≡ text ++ drop (length text) (replicate size 0) →
-    (parse (take len after) ≡ parse (take len text)) × Sound size after len depth
-wide_copied small size text after len depth le s e =
-    wide_sealed small size text after len depth le s (e ∙ (ap (λ i. text ++ drop i (replicate size 0)) (long small text len depth s) ∙ ap (λ z. text ++ z) (drop-replicate small size 0)))
-
-pub narrow_copied : (small size : ℕ) (text after : List ℕ) (len depth : ℕ) → small ≤ size → len ≤ small → Sound size text len depth → after ≡ take small text ++ drop (length (take small text)) (replicate small 0) →
-    (parse (take len after) ≡ parse (take len text)) × Sound small after len depth
-narrow_copied small size text after len depth le f s e =
-    let n = long size text len depth s in
-    let k = length-take-le small text (omega arith) in
-    narrow_sealed small size text after len depth le f s (e ∙ (ap (λ z. take small text ++ z) (drop_all {X = ℕ} (length (take small text)) (replicate small 0) (omega (arith, length-replicate {A = ℕ} small 0))) ∙ append-nil (take small text)))
 
 pub left_start : (text : List ℕ) → parts_from text 0 ≡ parts [] text
 left_start text = cond-true (leb 0 (length text)) _ _ (le-leb 0 (length text) (omega arith))

@@ -21,9 +21,13 @@ grow p (b ∷ bs) = grow (byte b p) bs
 abbrev pub parse : Text → Names
 parse bs = grow [] bs
 
+-- Those bytes, and zeros up to the size.
+abbrev pub filled : ℕ → Text → Text
+filled size t = t ++ replicate (size - length t) 0
+
 -- The rendered text of a path, and zeros up to the size.
 abbrev pub padded : ℕ → Names → Text
-padded size p = render p ++ replicate (size - length (render p)) 0
+padded size p = filled size (render p)
 
 -- Those bytes, that length and that depth hold the path p.
 abbrev pub Holds : ℕ → Text → ℕ → ℕ → Names → Type 0
@@ -34,9 +38,10 @@ Holds size bytes len depth p =
 abbrev pub Sound : ℕ → Text → ℕ → ℕ → Type 0
 Sound size bytes len depth = Holds size bytes len depth (parse (take len bytes))
 
--- The first len of those bytes may be a name.
+-- The first len of those bytes may be a name, and zeros follow.
 abbrev pub Spelt : ℕ → Text → ℕ → Type 0
-Spelt size bytes len = (len ≤ size) × (named (take len bytes) ≡ true)
+Spelt size bytes len =
+    (bytes ≡ filled size (take len bytes)) × (len ≡ length (take len bytes)) × (len ≤ size) × (named (take len bytes) ≡ true)
 
 -- A slash and the name n written at len.
 abbrev pub grown : Text → ℕ → Text → Text

@@ -1,49 +1,41 @@
--- That paths are equal where their names are, and so that equality of paths goes both ways round, and along a chain.
-use Rattle.std.specs.Prelude.{◌≡◌, true, List, [], ◌∷◌, refl, ℕ}
-use Rattle.std.specs.Cmp.{IsPartialEquivalence, both_ways}
-use Rattle.std.proofs.Common.{eqb, Decides, sym, ap, ◌∙◌, arith}
-use Rattle.std.proofs.lemmas.Bool.{and_parts, and_from, eqb-true, eq-eqb}
-use Rattle.paths.specs.Names.{Names, same_name, same_path}
-use Rattle.paths.specs.Model.{names}
-use Rattle.paths.specs.declared.path.Path.{Path}
-
-same_name_true : (a b : List ℕ) → same_name a b ≡ true → a ≡ b
-same_name_true [] [] h = refl
-same_name_true [] (y ∷ b) h = absurd (let z : ◌≡◌ {A = ℕ} 0 1 = cc in omega arith)
-same_name_true (x ∷ a) [] h = absurd (let z : ◌≡◌ {A = ℕ} 0 1 = cc in omega arith)
-same_name_true (x ∷ a) (y ∷ b) h =
-    let k = and_parts (eqb x y) (same_name a b) h in
-    let e = eqb-true x y k.0 in
-    let f = same_name_true a b k.1 in
-    cc
-
-same_name_same : (a : List ℕ) → same_name a a ≡ true
-same_name_same [] = refl
-same_name_same (x ∷ a) = and_from (eqb x x) (same_name a a) (eq-eqb x x refl) (same_name_same a)
-
-pub same_path_true : (p q : Names) → same_path p q ≡ true → p ≡ q
-same_path_true [] [] h = refl
-same_path_true [] (m ∷ q) h = absurd (let z : ◌≡◌ {A = ℕ} 0 1 = cc in omega arith)
-same_path_true (n ∷ p) [] h = absurd (let z : ◌≡◌ {A = ℕ} 0 1 = cc in omega arith)
-same_path_true (n ∷ p) (m ∷ q) h =
-    let k = and_parts (same_name n m) (same_path p q) h in
-    let e = same_name_true n m k.0 in
-    let f = same_path_true p q k.1 in
-    cc
-
-pub same_path_same : (p : Names) → same_path p p ≡ true
-same_path_same [] = refl
-same_path_same (n ∷ p) = and_from (same_name n n) (same_path p p) (same_name_same n) (same_path_same p)
+-- That paths are equal where their names are, and what the equality and the order of paths owe.
+use Rattle.std.specs.Prelude.{◌≡◌, true, reverse, refl}
+use Rattle.std.specs.Ordering.{eq_by_cmp, as_partial_cmp}
+use Rattle.std.specs.Cmp.{IsEquivalence, IsTotalOrder, IsPartialOrder, on_total, partial_order_from_agreeing_total}
+use Rattle.std.specs.Cmp.Lexicographic.{pointwise_decides, bytes_decides, nat_list_eq_equiv, nat_list_cmp_total, lists_equiv, lists_total, lists_ties, texts_ties}
+use Rattle.std.proofs.Common.{Decides, sym, ap, ◌∙◌}
+use Rattle.std.proofs.lemmas.Bool.Decides.{same_from_decides}
+use Rattle.std.proofs.lemmas.List.{reverse-reverse}
+use Rattle.paths.specs.Names.{Names, same_path}
+use Rattle.paths.specs.Order.{order_name, order_path}
 
 pub decides_same_path : (p q : Names) → Decides (same_path p q) (p ≡ q)
-decides_same_path p q = (same_path_true p q, λ e. ap (same_path p) (sym e) ∙ same_path_same p)
+decides_same_path = pointwise_decides bytes_decides
 
-same_path_turned : (p q : Names) → same_path p q ≡ true → same_path q p ≡ true
-same_path_turned p q h = ap (same_path q) (same_path_true p q h) ∙ same_path_same q
+pub same_path_true : (p q : Names) → same_path p q ≡ true → p ≡ q
+same_path_true p q = (decides_same_path p q).0
 
--- What equality of two paths as values owes.
-pub path_eq_laws : IsPartialEquivalence (λ (p q : Path). same_path (names p) (names q))
-path_eq_laws = record {
-  symm = λ x y. both_ways (same_path (names x) (names y)) (same_path (names y) (names x)) (same_path_turned (names x) (names y)) (same_path_turned (names y) (names x));
-  trans = λ x y z e f. ap (λ p. same_path p (names z)) (same_path_true (names x) (names y) e) ∙ f;
-}
+pub same_path_same : (p : Names) → same_path p p ≡ true
+same_path_same p = (decides_same_path p p).1 refl
+
+-- to turn two lists of names round tells them apart no less
+turned_back : (p q : Names) → reverse p ≡ reverse q → p ≡ q
+turned_back p q e = sym (reverse-reverse p) ∙ (ap reverse e ∙ reverse-reverse q)
+
+same_turned : (p q : Names) → same_path p q ≡ same_path (reverse p) (reverse q)
+same_turned p q =
+    let d = decides_same_path (reverse p) (reverse q) in
+    same_from_decides (same_path p q) (same_path (reverse p) (reverse q)) (decides_same_path p q)
+    ((λ h. turned_back p q (d.0 h)), (λ e. d.1 (ap reverse e)))
+
+pub names_equiv : IsEquivalence same_path
+names_equiv = lists_equiv nat_list_eq_equiv
+
+pub path_total : IsTotalOrder order_path
+path_total = on_total reverse (lists_total nat_list_cmp_total)
+
+pub path_ties : (p q : Names) → same_path p q ≡ eq_by_cmp order_path p q
+path_ties p q = same_turned p q ∙ lists_ties order_name texts_ties (reverse p) (reverse q)
+
+pub path_partial : IsPartialOrder same_path (as_partial_cmp order_path)
+path_partial = partial_order_from_agreeing_total order_path path_total (λ x y. refl) path_ties

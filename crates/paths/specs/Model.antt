@@ -1,24 +1,16 @@
 -- What the values of the code stand for.
-use Rattle.std.specs.Prelude.{ℕ, take, Ok, Err, Result}
+use Rattle.std.specs.Prelude.{ℕ, Ok, Err, Result}
 use Rattle.paths.specs.Names.{Name, Names}
-use Rattle.paths.specs.Bytes.{parse}
-use Rattle.paths.specs.declared.path.Path.{Path}
-use Rattle.paths.specs.declared.wide.Wide.{Wide}
-use Rattle.paths.specs.declared.name.Name.{Name as NameValue}
 use Rattle.paths.specs.declared.refusal.Refusal.{Refusal}
 use Rattle.paths.specs.declared.refusal.Refusal.TheVariants.{TextLong, ZeroByte, TooDeep}
 
--- The names of a path.
-unfoldable pub names : Path → Names
-names p = parse (take p.len p.text)
+-- A path is seen as its names.
+abbrev pub names : Names → Names
+names p = p
 
--- The names of a path on its way to the normal form.
-unfoldable pub wide_names : Wide → Names
-wide_names p = parse (take p.len p.text)
-
--- The bytes of a name.
-unfoldable pub spelling : NameValue → Name
-spelling n = take n.len n.bytes
+-- A name is seen as its bytes.
+abbrev pub spelling : Name → Name
+spelling n = n
 
 -- Each refusal's number.
 abbrev pub number : Refusal → ℕ

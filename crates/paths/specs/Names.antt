@@ -1,5 +1,6 @@
 -- A path is the list of its names, the innermost first: [] is "/", and n ∷ p is the child n of p.
-use Rattle.std.specs.Prelude.{ℕ, Bool, true, false, cond, not, ◌&&◌, List, [], ◌∷◌, ◌++◌, length, Some, None, Option, ◌==◌, nat_le, nat_lt}
+use Rattle.std.specs.Prelude.{ℕ, Bool, true, false, cond, not, ◌&&◌, List, [], ◌∷◌, ◌++◌, length, Some, None, Option, ◌==◌, nat_eq, nat_le, nat_lt}
+use Rattle.std.specs.Cmp.Lexicographic.{pointwise}
 
 -- A name is its bytes.
 abbrev pub Name : Type 0
@@ -64,17 +65,11 @@ last (n ∷ p) = Some n
 
 -- Byte by byte.
 abbrev pub same_name : Name → Name → Bool
-same_name [] [] = true
-same_name [] (b ∷ m) = false
-same_name (a ∷ n) [] = false
-same_name (a ∷ n) (b ∷ m) = a == b && same_name n m
+same_name = pointwise nat_eq
 
 -- Name by name.
 abbrev pub same_path : Names → Names → Bool
-same_path [] [] = true
-same_path [] (m ∷ q) = false
-same_path (n ∷ p) [] = false
-same_path (n ∷ p) (m ∷ q) = same_name n m && same_path p q
+same_path = pointwise same_name
 
 -- p is q or lies below it.
 abbrev pub starts_with : Names → Names → Bool

@@ -7,7 +7,7 @@ pub mod name;
 pub mod normal;
 pub mod path;
 pub mod refusal;
-mod wide;
+mod spelled;
 
 pub use cursor::{Cursor, Part};
 pub use name::Name;

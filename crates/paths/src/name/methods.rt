@@ -1,8 +1,6 @@
 // Making a name of bytes, and reading it.
-ghost use Rattle.std.specs.Prelude.{◌≡◌, ℕ};
-ghost use Rattle.std.specs.Option.{option_map};
-ghost use Rattle.paths.specs.Names.{dots, plain, name_of};
-ghost use Rattle.paths.specs.Model.{spelling};
+ghost use Rattle.std.specs.Prelude.{◌≡◌, ℕ, true};
+ghost use Rattle.paths.specs.Names.{dots, plain, named, name_of};
 
 use super::Name;
 use crate::bytes::copy;
@@ -34,7 +32,7 @@ fn is_dots(bytes: &[u8]) -> bool
 impl Name {
     // The name that those bytes spell, if they may be one.
     pub fn new(bytes: &[u8]) -> Option<Name>
-        ensures { option_map spelling result ≡ name_of bytes.now }
+        ensures { result ≡ name_of bytes.now }
     {
         if bytes.len() > 255 {
             return None;
@@ -54,7 +52,8 @@ impl Name {
     }
 
     pub fn bytes(&self) -> &[u8]
-        ensures { result.now ≡ spelling self.now }
+        ensures value { result.now ≡ self.now }
+        ensures named { named result.now ≡ true }
     {
         &self.bytes[0..self.len]
     }

@@ -1,17 +1,50 @@
-// Equality of paths.
-ghost use Rattle.std.specs.Prelude.{◌≡◌};
+// Equality and order of paths.
+ghost use Rattle.std.specs.Prelude.{◌≡◌, refl};
+ghost use Rattle.std.specs.Ordering.{as_partial_cmp};
+ghost use Rattle.std.specs.Cmp.{partial_equiv_from_equiv};
 ghost use Rattle.paths.specs.Names.{same_path};
-ghost use Rattle.paths.specs.Model.{names};
-ghost use Rattle.paths.specs.Equal.{path_eq_laws};
+ghost use Rattle.paths.specs.Order.{order_path};
+ghost use Rattle.paths.specs.Equal.{names_equiv, path_total, path_ties, path_partial};
 
 use super::Path;
+use crate::bytes;
+use std::cmp::Ordering;
 
 impl PartialEq for Path {
-    ghost eq = { λ p q. same_path (names p) (names q) };
+    ghost eq = { same_path };
 
-    ghost laws = { path_eq_laws };
+    ghost laws = { partial_equiv_from_equiv names_equiv };
 
     fn eq(&self, other: &Path) -> bool {
-        self.text[0..self.len] == other.text[0..other.len]
+        self.spelled.bytes() == other.spelled.bytes()
+    }
+}
+
+impl Eq for Path {
+    ghost laws = { names_equiv };
+}
+
+impl PartialOrd for Path {
+    ghost partial_cmp = { as_partial_cmp order_path };
+
+    ghost laws = { path_partial };
+
+    fn partial_cmp(&self, other: &Path) -> Option<Ordering> {
+        Some(self.cmp(other))
+    }
+}
+
+// By names from "/" down, a beginning first.
+impl Ord for Path {
+    ghost cmp = { order_path };
+
+    ghost total = { path_total };
+
+    ghost matches_partial_cmp = { λ p q. refl };
+
+    ghost matches_eq = { path_ties };
+
+    fn cmp(&self, other: &Path) -> Ordering {
+        bytes::order(self.spelled.bytes(), other.spelled.bytes())
     }
 }

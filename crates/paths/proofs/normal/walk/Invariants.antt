@@ -1,14 +1,14 @@
 use Rattle.std.proofs.Common.{◌≡◌, ◌+◌, ◌-◌, ◌≤◌, true, [], length}
 use Rattle.paths.proofs.normal.walk.Given as goal
+use Rattle.paths.specs.Names.{render}
 use Rattle.paths.specs.Texts.{walked, parts, parts_from}
 use Rattle.paths.proofs.Renders.{plains}
-use Rattle.paths.specs.Model.{wide_names}
 
 abbrev pub invariant-loop-part : goal.invariant-loop-part
 invariant-loop-part l =
-    (walked (wide_names l.wide) (parts_from l.text l.cursor.at) ≡ walked (wide_names l.initial.wide) (parts [] l.text))
+    (walked l.wide (parts_from l.text l.cursor.at) ≡ walked l.initial.wide (parts [] l.text))
     × (plains (parts_from l.text l.cursor.at) ≡ true)
-    × (l.wide.len ≤ 64 + l.cursor.at)
+    × (length (render l.wide) ≤ 64 + l.cursor.at)
     × (l.cursor.text.now ≡ l.text)
 
 abbrev pub decreases-loop-part : goal.decreases-loop-part

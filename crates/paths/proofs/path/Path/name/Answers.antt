@@ -1,14 +1,9 @@
-use Rattle.std.proofs.Common.{ap, ◌∙◌, arith, lit≤, rules}
-use native.Mathlib.Nat.{sub-zero}
-use Rattle.paths.specs.Names.{name_of}
-use Rattle.paths.proofs.Lasts.{name_sealed}
-use Rattle.paths.specs.Model.{names, spelling}
+use Rattle.std.proofs.Common.{ap, ◌∙◌, arith}
+use Rattle.paths.specs.Names.{last}
+use Rattle.paths.proofs.Lasts.{named_of}
 use Rattle.paths.proofs.path.Path.name.Goals as goal
 
 pub returns : goal.returns
-unfolding names spelling
-returns c = c.new.ensures ∙ (ap name_of c.last_part.ensures ∙ name_sealed 64 c.args.self.now.text c.args.self.now.len c.args.self.now.depth _ (lit≤ tt) c.args.self.now.ok (omega arith) (sub-zero _))
-
-pub returns-then-self-eq0 : goal.returns-then-self-eq0
-unfolding names spelling
-returns-then-self-eq0 c = search rules
+returns c =
+    let l = c.in_ok-last.ensures in
+    c.new.ensures ∙ (named_of c.in_ok-last.field-0.now l.named.0 (omega (arith, l.named.1)) ∙ l.value ∙ ap last c.self.view_is)

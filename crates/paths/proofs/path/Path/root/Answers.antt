@@ -1,7 +1,0 @@
-use Rattle.std.proofs.Common.{rules}
-use Rattle.paths.specs.Model.{names}
-use Rattle.paths.proofs.path.Path.root.Goals as goal
-
-pub returns : goal.returns
-unfolding names
-returns c = search rules

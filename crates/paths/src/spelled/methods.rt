@@ -1,0 +1,84 @@
+// Going up and down by a name, and the bytes.
+ghost use Rattle.std.specs.Prelude.{◌≡◌, ℕ, ◌+◌, ◌<◌, ◌≤◌, true, min, [], ◌∷◌, length, IfSome};
+ghost use Rattle.std.specs.Option.{option_map};
+ghost use Rattle.paths.specs.Names.{named, good, up, last, render};
+
+use super::Spelled;
+use crate::bytes::{blank, copy, extend, last_part, last_slash};
+
+impl<const N: usize> Spelled<N> {
+    pub(crate) fn root() -> Self
+        ensures { result ≡ [] }
+    {
+        Spelled {
+            text: [0; N],
+            len: 0,
+            depth: 0,
+        }
+    }
+
+    // The same names in a buffer of another size.
+    pub(crate) fn resized<const M: usize>(&self) -> Spelled<M>
+        requires { min N (length (render self.now)) ≤ M }
+        ensures value { result ≡ self.now }
+        ensures within { length (render self.now) ≤ N }
+    {
+        let mut text = [0; M];
+        copy(&mut text, self.bytes());
+        Spelled {
+            text,
+            len: self.len,
+            depth: self.depth,
+        }
+    }
+
+    // How many names.
+    pub(crate) fn depth(&self) -> usize
+        ensures { result ≡ length self.now }
+    {
+        self.depth
+    }
+
+    pub(crate) fn bytes(&self) -> &[u8]
+        ensures value { result.now ≡ render self.now }
+        ensures good { good self.now ≡ true }
+        ensures within { length (render self.now) ≤ N }
+    {
+        let text = &self.text[..];
+        &text[..self.len]
+    }
+
+    // The innermost name.
+    pub(crate) fn last(&self) -> Option<&[u8]>
+        ensures value { option_map (λ x. x.now) result ≡ last self.now }
+        ensures named { IfSome result (λ x. (named x.now ≡ true) × (length x.now ≤ N)) }
+    {
+        if self.depth == 0 {
+            return None;
+        }
+        Some(last_part(self.bytes()))
+    }
+
+    pub(crate) fn push(&mut self, name: &[u8])
+        requires named { named name.now ≡ true }
+        requires room { length (render self.old) + length name.now < N }
+        ensures { self.new ≡ name.now ∷ self.old }
+    {
+        extend(&mut self.text, self.len, name);
+        self.len += 1 + name.len();
+        self.depth += 1;
+    }
+
+    // The directory above "/" is "/".
+    pub(crate) fn pop(&mut self)
+        ensures { self.new ≡ up self.old }
+    {
+        if self.depth == 0 {
+            return;
+        }
+        let k = last_slash(self.bytes());
+        blank(&mut self.text, k);
+        self.len = k;
+        self.depth -= 1;
+    }
+}
