@@ -1,4 +1,5 @@
 pub mod Requests
 pub mod Answers
 pub mod Model
+pub mod Places
 pub mod Texts

@@ -1,21 +1,13 @@
 -- What the values of the code stand for.
-use Rattle.std.specs.Prelude.{Bool, cond, Some, None, Ok, Err, Option, Result}
+use Rattle.std.specs.Prelude.{Bool, Ok, Err, Option, Result}
 use Rattle.paths.specs.Names.{Names}
-use Rattle.paths.specs.Model.{names, spelling}
-use Rattle.outside.specs.declared.carried.Carried.{Carried}
 use Rattle.outside.specs.declared.cause.BackendCause.{BackendCause}
 use Rattle.outside.specs.declared.cause.ScanCause.{ScanCause}
 use Rattle.outside.specs.declared.cause.FilterFault.{FilterFault}
 use Rattle.outside.specs.declared.entry.EntryKind.{EntryKind}
 use Rattle.outside.specs.declared.entry.EntryKind.TheVariants.{Directory, NonFollowedSymlink, Other}
-use Rattle.outside.specs.declared.entry.Item.{Item}
-use Rattle.outside.specs.declared.entry.Item.TheVariants.{Child, Failed, End}
 use Rattle.outside.specs.Requests.{Answer, done, failed}
-use Rattle.outside.specs.Answers.{Entry, directory, symlink, other, Classified, ListingItem, Verdict}
-
--- The path that stands in the place, or none.
-abbrev pub carries : Carried → Option Names
-carries c = cond c.stands (Some (names c.path)) None
+use Rattle.outside.specs.Answers.{Entry, directory, symlink, other, Classified, Verdict}
 
 -- A reply and the path beside it are one answer.
 abbrev pub answered : Result (Unit {0}) BackendCause → Option Names → Answer
@@ -41,16 +33,6 @@ canonical_of other old = old
 abbrev pub canonical : Classified → Names → Names
 canonical (Ok e) old = canonical_of e old
 canonical (Err c) old = old
-
--- What an item of the code says: a name or a cause, or that there is none.
-abbrev pub item_of : Item → Option ListingItem
-item_of (Child n) = Some (Ok (spelling n))
-item_of (Failed c) = Some (Err c)
-item_of End = None
-
-abbrev pub shown : Result Item ScanCause → Result (Option ListingItem) ScanCause
-shown (Ok i) = Ok (item_of i)
-shown (Err c) = Err c
 
 -- A filterer's reply with the number in place of the fault.
 abbrev pub verdict_of : Result Bool FilterFault → Verdict

@@ -1,9 +1,8 @@
 // A backend watches directories: its book is the set of paths that it watches.
 ghost use Rattle.std.specs.Prelude.{◌≡◌, Bool, true, is_ok, None};
 ghost use Rattle.paths.specs.Names.{Names};
-ghost use Rattle.paths.specs.Model.{names};
 ghost use Rattle.outside.specs.Requests.{Request, watch as asks_watch, unwatch as asks_unwatch, Answer, Means};
-ghost use Rattle.outside.specs.Model.{answered, carries};
+ghost use Rattle.outside.specs.Model.{answered};
 
 use crate::carried::Carried;
 use crate::cause::BackendCause;
@@ -18,12 +17,12 @@ pub trait Backend {
 
     // A cause puts the path that it carries into the place that the caller lends.
     fn watch(&mut self, path: &Path, carried: &mut Carried) -> Result<(), BackendCause>
-        ensures answer { did self.old (asks_watch (names path.now)) (answered result (carries carried.new)) self.new }
-        ensures none { is_ok result ≡ true → carries carried.new ≡ None };
+        ensures answer { did self.old (asks_watch path.now) (answered result carried.new) self.new }
+        ensures none { is_ok result ≡ true → carried.new ≡ None };
 
     fn unwatch(&mut self, path: &Path, carried: &mut Carried) -> Result<(), BackendCause>
-        ensures answer { did self.old (asks_unwatch (names path.now)) (answered result (carries carried.new)) self.new }
-        ensures none { is_ok result ≡ true → carries carried.new ≡ None };
+        ensures answer { did self.old (asks_unwatch path.now) (answered result carried.new) self.new }
+        ensures none { is_ok result ≡ true → carried.new ≡ None };
 
     ghost means: { (b : Self) (q : Request) (a : Answer) (c : Self) → did b q a c → Means (book b) q a (book c) };
 }

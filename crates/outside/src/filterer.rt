@@ -1,7 +1,6 @@
 // A filterer says which directories are wanted.
 ghost use Rattle.std.specs.Prelude.{◌≡◌, true, Ok};
 ghost use Rattle.paths.specs.Names.{Names};
-ghost use Rattle.paths.specs.Model.{names};
 ghost use Rattle.outside.specs.Answers.{Verdict};
 ghost use Rattle.outside.specs.Model.{verdict_of};
 
@@ -13,7 +12,7 @@ pub trait Filterer {
     ghost verdict: { Self → Names → Verdict };
 
     fn check_dir(&self, path: &Path) -> Result<bool, FilterFault>
-        ensures { verdict_of result ≡ verdict self.now (names path.now) };
+        ensures { verdict_of result ≡ verdict self.now path.now };
 }
 
 // The filterer that wants everything.

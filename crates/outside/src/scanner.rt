@@ -1,13 +1,12 @@
 // A scanner says what stands at a path and what a directory lists; to ask changes nothing.
 ghost use Rattle.std.specs.Prelude.{◌≡◌, ℕ, Bool, true, Ok, ◌≢◌};
 ghost use Rattle.paths.specs.Names.{Names};
-ghost use Rattle.paths.specs.Model.{names};
 ghost use Rattle.outside.specs.Answers.{Classified, symlink, Listed, item_at};
-ghost use Rattle.outside.specs.Model.{kind, canonical as canonical_after, shown};
+ghost use Rattle.outside.specs.Model.{kind, canonical as canonical_after};
 
 use crate::cause::ScanCause;
-use crate::entry::{EntryKind, Item};
-use paths::Path;
+use crate::entry::EntryKind;
+use paths::{Name, Path};
 
 pub trait Scanner {
     // One classification for each path and follow mark.
@@ -23,12 +22,12 @@ pub trait Scanner {
         follow: bool,
         canonical: &mut Path,
     ) -> Result<EntryKind, ScanCause>
-        ensures value { result ≡ kind (classified self.now (names path.now) follow) }
-        ensures after { names canonical.new ≡ canonical_after (classified self.now (names path.now) follow) (names canonical.old) };
+        ensures value { result ≡ kind (classified self.now path.now follow) }
+        ensures after { canonical.new ≡ canonical_after (classified self.now path.now follow) canonical.old };
 
-    // The item of that number, from 0, of the path's listing.
-    fn item(&self, path: &Path, number: usize) -> Result<Item, ScanCause>
-        ensures { shown result ≡ item_at number (listed self.now (names path.now)) };
+    // The item of that number, from 0, of the path's listing: a child's name or a cause, or none behind the last.
+    fn item(&self, path: &Path, number: usize) -> Result<Option<Result<Name, ScanCause>>, ScanCause>
+        ensures { result ≡ item_at number (listed self.now path.now) };
 
     ghost followed: { (s : Self) (p : Names) → classified s p true ≢ Ok symlink };
 }

@@ -1,5 +1,5 @@
 -- A table's entries after a change: what is entered, and that they ascend.
-use Rattle.std.proofs.Common.{◌≡◌, ℕ, ◌<◌, ◌≤◌, Bool, true, false, not, List, [], ◌∷◌, length, Ok, Err, filter, refl, sym, ap, ◌∙◌, inl, inr, arith}
+use Rattle.std.proofs.Common.{◌≡◌, ℕ, ◌<◌, ◌≤◌, Bool, true, false, not, List, [], ◌∷◌, length, Ok, Err, filter, refl, ap, ◌∙◌, inl, inr, arith}
 use Rattle.std.proofs.lemmas.Bool.{cases_Bool, cond-true, cond-false, lt-ltb, le-ltb}
 use Rattle.std.specs.Cmp.{IsTotalOrder}
 use Rattle.std.specs.Ordering.{is_eq, is_lt, ordering_reverse}
@@ -11,8 +11,8 @@ use Rattle.tables.specs.Room.{fitted}
 use Rattle.tables.specs.Lists.{any, every, placed, without}
 use Rattle.tables.proofs.Ascents.{ascends_kept, ascends_without, ascends_changed, ascends_placed}
 use Rattle.std.specs.List.{items_where_true}
-use Rattle.std.proofs.lemmas.Cmp.{tied_back, alike_right}
-use Rattle.tables.proofs.Ascents.{every_where, ascends_where}
+use Rattle.std.proofs.lemmas.Cmp.{alike_right}
+use Rattle.tables.proofs.Ascents.{ascends_where}
 use Rattle.tables.proofs.Sought.{less_of, equal_of}
 
 module _ {K V : Type 0} (cmp : K → K → Ordering) (xs : List (Entry K V)) (up : ascending cmp xs ≡ true) where

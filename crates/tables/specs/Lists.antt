@@ -1,5 +1,5 @@
 -- What the methods of a bounded list answer of it, and what they make of it.
-use Rattle.std.specs.Prelude.{ℕ, ◌+◌, Bool, true, false, cond, List, [], ◌∷◌, Some, None, Option}
+use Rattle.std.specs.Prelude.{Bool, true, false, cond, List, [], ◌∷◌, Some, None, Option}
 pub use Rattle.std.specs.List.{list_any as any, list_all as every, find as first}
 
 module _ {X : Type 0} (test : X → Bool) where

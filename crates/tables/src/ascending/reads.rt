@@ -59,11 +59,7 @@ impl<K: Ord + Copy, V: Copy, const N: usize> Table<K, V, N> {
     }
 
     // The entry of that number, from 0, among those that pass.
-    pub fn nth<F: Fn(&Entry<K, V>) -> bool>(
-        &self,
-        passes: F,
-        number: usize,
-    ) -> Option<&Entry<K, V>>
+    pub fn nth<F: Fn(&Entry<K, V>) -> bool>(&self, passes: F, number: usize) -> Option<&Entry<K, V>>
         requires { F.IsAlwaysCallable passes }
         ensures { (test : _) → ComputesKey F.Fn test passes → option_map (λ x. x.now) result ≡ nth_of (filter test self.now) number }
     {

@@ -5,6 +5,7 @@ ghost use Rattle.std.specs.Fn.{ComputesKey};
 ghost use Rattle.tables.specs.Lists.{any, head};
 
 use super::Queue;
+use crate::search;
 
 impl<T: Copy, const N: usize> Queue<T, N> {
     pub fn len(&self) -> usize
@@ -35,6 +36,6 @@ impl<T: Copy, const N: usize> Queue<T, N> {
         requires { F.IsAlwaysCallable passes }
         ensures { (test : _) → ComputesKey F.Fn test passes → result ≡ any test self.now }
     {
-        self.items.iter().any(passes)
+        search::any(&self.items, passes)
     }
 }

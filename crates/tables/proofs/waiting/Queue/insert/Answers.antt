@@ -1,5 +1,4 @@
-use Rattle.std.proofs.Common.{true, not, length, sym, ap, ◌∙◌, arith}
-use Rattle.std.specs.List.{insert, prefix_len}
+use Rattle.std.proofs.Common.{not, length, ap, arith}
 use Rattle.tables.specs.Lists.{placed}
 use Rattle.tables.proofs.Entered.{fitted_new}
 use Rattle.tables.proofs.Sought.{placed_at}
