@@ -1,7 +1,8 @@
 // A line of a scenario: whether it is passed over, and its words.
-ghost use Rattle.std.specs.Prelude.{◌≡◌, ◌+◌, ◌≤◌, not, length, drop};
+ghost use Rattle.std.specs.Prelude.{◌≡◌, take, not};
 ghost use Rattle.std.specs.Option.{option_map};
-ghost use Rattle.std.specs.List.{prefix_len};
+ghost use Rattle.std.specs.List.{before_first};
+ghost use Rattle.std.specs.Iterator.{YieldsFirstBy, item_count};
 ghost use Rattle.std.specs.Str.{bytes_eq};
 ghost use Rattle.scenario.specs.Words.{blank, space, words, placed};
 ghost use Rattle.scenario.specs.Walk.{seen, yet, head, tail};
@@ -41,34 +42,36 @@ impl<'a> Words<'a> {
         Words { line, at: 0 }
     }
 
-    // The next word, an empty one where two spaces meet or one stands at an end.
+    // The same as `next`.
     pub fn next_word(&mut self) -> Option<Word<'a>>
         ensures value { option_map seen result ≡ head (yet self.old) }
         ensures after { yet self.new ≡ tail (yet self.old) }
     {
-        let line = self.line;
-        let at = self.at;
-        if at > line.len() {
-            return None;
-        }
-        let end = word_end(line, at);
-        self.at = end + 1;
-        Some(Word {
-            bytes: &line[at..end],
-            column: at + 1,
-        })
+        self.next()
     }
 }
 
-// Where the word ends that begins at `at`.
-fn word_end(line: &[u8], at: usize) -> usize
-    requires { at ≤ length line.now }
-    ensures value { result ≡ at + prefix_len (λ b. not (space b)) (drop at line.now) }
-    ensures within { result ≤ length line.now }
-{
-    let mut end = at;
-    while end < line.len() && line[end] != b' ' {
-        end += 1;
+// An empty word comes where two spaces meet or one stands at an end.
+impl<'a> Iterator for Words<'a> {
+    type Item = Word<'a>;
+
+    ghost next_gives = { YieldsFirstBy seen yet };
+
+    ghost remaining = { item_count yet };
+
+    fn next(&mut self) -> Option<Word<'a>> {
+        // After the last word `at` is past the line's end.
+        let left = self.line.get(self.at..)?;
+        let column = self.at + 1;
+        let bytes = first_word(left);
+        self.at += bytes.len() + 1;
+        Some(Word { bytes, column })
     }
-    end
+}
+
+fn first_word(line: &[u8]) -> &[u8]
+    ensures { result.now ≡ before_first space line.now }
+{
+    let end = line.iter().position(|b| *b == b' ').unwrap_or(line.len());
+    &line[..end]
 }
