@@ -2,3 +2,4 @@ mod Cuts
 mod Digits
 mod Back
 mod Fronts
+mod Chars

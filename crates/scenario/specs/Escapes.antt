@@ -53,6 +53,17 @@ abbrev mutual
   escaped (h ∷ []) = None
   escaped (h ∷ l ∷ bs) = before (paired (nibble h) (nibble l)) (read bs)
 
+-- a byte that stands for itself, and nothing for any other
+abbrev pub alone : ℕ → Option ℕ
+alone b = cond (plain b) (Some b) None
+
+-- what each character of a word stands for, one after another, and nothing where it cannot be read
+abbrev pub chars : List ℕ → List (Option ℕ)
+chars [] = []
+chars (b ∷ []) = alone b ∷ []
+chars (b ∷ h ∷ []) = alone b ∷ alone h ∷ []
+chars (b ∷ h ∷ l ∷ bs) = cond (b == 37) (paired (nibble h) (nibble l) ∷ chars bs) (alone b ∷ chars (h ∷ l ∷ bs))
+
 -- the text that a word stands for; no text is the empty word
 abbrev pub decoded : List ℕ → Option (List ℕ)
 decoded [] = None

@@ -1,13 +1,14 @@
 // The text that a word stands for.
-ghost use Rattle.std.specs.Prelude.{◌≡◌, ◌<◌, ◌≤◌, true, ◌∷◌, length, is_some, IfSome, IfOk, IfErr, Some, None, MatchOption};
+ghost use Rattle.std.specs.Prelude.{◌≡◌, ◌<◌, true, is_some, IfSome, IfOk, IfErr, Some};
+ghost use Rattle.std.specs.Iterator.{YieldsFirst, item_count};
 ghost use Rattle.scenario.specs.declared.reading.TextError.TheVariants.{NoMemory};
 ghost use Rattle.scenario.specs.Refusals.{refusal};
-ghost use Rattle.scenario.specs.Escapes.{nibble, paired, before, read, escaped, decoded};
+ghost use Rattle.scenario.specs.Escapes.{nibble, paired, chars, read, decoded};
 
 use crate::writing::is_plain;
 use std::alloc::{AllocError, Global};
 
-#[derive(Clone, Copy)]
+#[derive(Clone, Copy, Debug, PartialEq, Eq)]
 pub enum TextError {
     BadText,
     NoMemory,
@@ -29,6 +30,7 @@ pub fn decode(heap: Global, word: &[u8]) -> Result<Vec<u8>, TextError>
     match word {
         [] => Err(TextError::BadText),
         [b'%'] => Ok(Vec::new(heap)),
+        // Before any memory is asked for: a bad word is refused as bad where there is none too.
         _ if !is_text(word) => Err(TextError::BadText),
         _ => Ok(unescape(heap, word)?),
     }
@@ -38,63 +40,36 @@ pub fn decode(heap: Global, word: &[u8]) -> Result<Vec<u8>, TextError>
 fn is_text(word: &[u8]) -> bool
     ensures { result ≡ is_some (read word.now) }
 {
-    let mut left = word;
-    while let [first, rest @ ..] = left {
-        let Some(next) = front(*first, rest) else {
-            return false;
-        };
-        left = next.rest;
-    }
-    true
+    Unescaped(word).all(|b| b.is_some())
 }
 
 fn unescape(heap: Global, word: &[u8]) -> Result<Vec<u8>, AllocError>
     requires { is_some (read word.now) ≡ true }
     ensures { IfOk result (λ v. read word.now ≡ Some v.items) }
 {
-    let mut text = Vec::with_capacity(heap, word.len())?;
-    let mut left = word;
-    while let [first, rest @ ..] = left {
-        let Some(next) = front(*first, rest) else {
-            unreachable()
+    Unescaped(word).flatten().collect(heap)
+}
+
+// The byte that each character of a word stands for, and none for one that cannot be read.
+#[derive(Drop)]
+struct Unescaped<'a>(&'a [u8]);
+
+impl Iterator for Unescaped<'_> {
+    type Item = Option<u8>;
+
+    ghost next_gives = { YieldsFirst (λ s. chars s.0.now) };
+
+    ghost remaining = { item_count (λ s. chars s.0.now) };
+
+    fn next(&mut self) -> Option<Option<u8>> {
+        let (byte, rest) = match self.0 {
+            [] => return None,
+            [b'%', high, low, rest @ ..] => (hex_byte(*high, *low), rest),
+            [b, rest @ ..] => (is_plain(*b).then_some(*b), rest),
         };
-        text.push_reserved(next.byte);
-        left = next.rest;
+        self.0 = rest;
+        Some(byte)
     }
-    Ok(text)
-}
-
-// The byte that the first characters of a word stand for, and the others.
-#[derive(Clone, Copy)]
-struct Taken<'a> {
-    byte: u8,
-    rest: &'a [u8],
-}
-
-fn front(first: u8, rest: &[u8]) -> Option<Taken<'_>>
-    ensures value { MatchOption result (read (first ∷ rest.now) ≡ None) (λ x. read (first ∷ rest.now) ≡ before (Some x.byte) (read x.rest.now)) }
-    ensures within { IfSome result (λ x. length x.rest.now ≤ length rest.now) }
-{
-    if first == b'%' {
-        return escape(rest);
-    }
-    if is_plain(first) {
-        Some(Taken { byte: first, rest })
-    } else {
-        None
-    }
-}
-
-// The same after a '%'.
-fn escape(word: &[u8]) -> Option<Taken<'_>>
-    ensures value { MatchOption result (escaped word.now ≡ None) (λ x. escaped word.now ≡ before (Some x.byte) (read x.rest.now)) }
-    ensures within { IfSome result (λ x. length x.rest.now ≤ length word.now) }
-{
-    let [h, l, rest @ ..] = word else {
-        return None;
-    };
-    let byte = hex_byte(*h, *l)?;
-    Some(Taken { byte, rest })
 }
 
 // The byte of two upper-case hex digits.

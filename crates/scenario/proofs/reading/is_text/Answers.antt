@@ -1,18 +1,11 @@
-use Rattle.std.proofs.Common.{is_some, sym, ap, ◌∙◌, rules}
-use Rattle.std.proofs.lemmas.Slice.{first_rest}
-use Rattle.scenario.specs.Escapes.{read}
-use Rattle.scenario.proofs.Fronts.{some_before}
+use Rattle.std.proofs.Common.{is_some, sym, ◌∙◌, rules, tests}
+use Rattle.std.proofs.lemmas.Iterator.Search.{all_from_yields_List}
+use Rattle.std.proofs.lemmas.Iterator.Consumers.{YieldsList-from_first}
+use Rattle.scenario.specs.Escapes.{chars}
+use Rattle.scenario.proofs.Chars.{readable}
 use Rattle.scenario.proofs.reading.is_text.Goals as goal
 
-pub returns-in_default-front : goal.returns-in_default-front
-returns-in_default-front c =
-    let f = first_rest c.loop-left.left.now 0 (search rules) in
-    let n = ap read f ∙ c.in_default-front.ensures.value in
-    sym (ap is_some n) ∙ c.loop-left.invariant
-
-pub loop-left-preserved : goal.loop-left-preserved
-loop-left-preserved c =
-    let next = c.in-Some.next in
-    let f = first_rest c.loop-left.left.now 0 (search rules) in
-    let r = ap read f ∙ c.in-Some.ensures.value in
-    sym (ap is_some r ∙ some_before next.byte (read next.rest.now)) ∙ c.loop-left.invariant
+pub returns : goal.returns
+returns c =
+    let w = c.args.word.now in
+    all_from_yields_List is_some c.all.new.self _ c.all.result c.all.ensures.ran (YieldsList-from_first (λ x. x) (λ s. chars s.0.now) (chars w) cc) (λ x b q k. search (rules, tests)) ∙ sym (readable w)

@@ -1,32 +1,16 @@
-use Rattle.std.proofs.Common.{is_some, vec_items, sym, ap, ◌∙◌, arith, rules}
-use Rattle.std.proofs.lemmas.Slice.{first_rest}
-use Rattle.std.proofs.lemmas.Bool.{both_ways}
-use Rattle.scenario.specs.Escapes.{read}
-use Rattle.scenario.proofs.Fronts.{following, following_none, following_more}
+use Rattle.std.proofs.Common.{◌≡◌, vec_items, Some, sym, ap, ◌∙◌}
+use Rattle.std.specs.List.{flat_map}
+use Rattle.std.specs.Option.{option_to_list}
+use Rattle.std.proofs.lemmas.Result.{IfOk-weaker}
+use Rattle.std.proofs.lemmas.Iterator.{items_from_collect}
+use Rattle.std.proofs.lemmas.Iterator.Consumers.{YieldsList-from_first, YieldsList-at}
+use Rattle.std.proofs.lemmas.Iterator.Adapters.{YieldsList-from_once, YieldsList-from_flatten}
+use Rattle.scenario.specs.Escapes.{chars, read}
+use Rattle.scenario.proofs.Chars.{read_whole}
 use Rattle.scenario.proofs.reading.unescape.Goals as goal
 
-pub loop-left-init : goal.loop-left-init
-loop-left-init c =
-    let m = c.in_ok-text.ensures.items in
-    let e = c.in_ok-text.ensures.len in
-    let k = c.in_ok-text.ensures.capacity in
-    let n = following_none (read c.args.word.now) in
-    (cc, omega arith)
-
-pub unreachable-requires : goal.unreachable-requires
-unreachable-requires c =
-    let f = first_rest c.loop-left.left.now 0 (search rules) in
-    let n = ap read f ∙ c.in_default-front.ensures.value in
-    let e = sym c.loop-left.invariant.0 ∙ ap (following (vec_items c.loop-left.text)) n in
-    both_ways _ (ap is_some e) c.requires
-
-pub loop-left-preserved : goal.loop-left-preserved
-loop-left-preserved c =
-    let text = vec_items c.loop-left.text in
-    let next = c.in-Some.next in
-    let f = first_rest c.loop-left.left.now 0 (search rules) in
-    let r = ap read f ∙ c.in-Some.ensures.value in
-    let s = ap (following text) r ∙ following_more text next.byte (read next.rest.now) in
-    let p = c.push_reserved.ensures.items in
-    let v = c.loop-left.invariant.0 in
-    (cc, search rules)
+pub returns : goal.returns
+returns c =
+    let w = c.args.word.now in
+    let yields = YieldsList-from_flatten _ _ (λ x. x) option_to_list (λ x j e. YieldsList-from_once x e.0) (YieldsList-at c.flatten.ensures.source (YieldsList-from_first (λ x. x) (λ s. chars s.0.now) (chars w) cc)) c.flatten.ensures.front c.flatten.ensures.back c.flatten.ensures.done in
+    IfOk-weaker c.collect.result (λ v. vec_items v ≡ flat_map option_to_list (chars w)) (λ v. read w ≡ Some (vec_items v)) (λ v e. read_whole w c.requires ∙ ap Some (sym e)) (items_from_collect _ c.collect.ensures.ran yields)
