@@ -1,5 +1,4 @@
 mod Cuts
 mod Digits
 mod Back
-mod Fronts
 mod Chars

@@ -19,8 +19,6 @@ pub fn number(word: &[u8]) -> Option<u64>
 fn with_digit(value: u64, b: u8) -> Option<u64>
     ensures { result ≡ joined value b }
 {
-    match b {
-        b'0'..=b'9' => value.checked_mul(10)?.checked_add(u64::from(b - b'0')),
-        _ => None,
-    }
+    let digit = char::from(b).to_digit(10)?;
+    value.checked_mul(10)?.checked_add(u64::from(digit))
 }

@@ -5,6 +5,7 @@ ghost use Rattle.scenario.specs.Escapes.{plain, hex, written, spelt, encoded, Co
 use std::alloc::AllocError;
 
 // Appends the word for a text.
+#[tactic(auto, using(crate::proofs::Back::comes_back, crate::proofs::Back::one_word))]
 pub fn encode(out: &mut String, text: &[u8]) -> Result<(), AllocError>
     ensures after { string_bytes out.new ≡ (if is_ok result then string_bytes out.old ++ encoded text.now else string_bytes out.old) }
     ensures laws { ComesBack × OneWord }
@@ -36,11 +37,11 @@ fn put(out: &mut String, b: u8)
 {
     if is_plain(b) {
         put_ascii(out, b);
-        return;
+    } else {
+        put_ascii(out, b'%');
+        put_ascii(out, hex_digit(b / 16));
+        put_ascii(out, hex_digit(b % 16));
     }
-    put_ascii(out, b'%');
-    put_ascii(out, hex_digit(b / 16));
-    put_ascii(out, hex_digit(b % 16));
 }
 
 fn put_ascii(out: &mut String, b: u8)
@@ -50,7 +51,8 @@ fn put_ascii(out: &mut String, b: u8)
     ensures len { string_len out.new ≡ string_len out.old + 1 }
     ensures capacity { string_capacity out.old ≤ string_capacity out.new }
 {
-    let _ = out.push(b as char);
+    // There is room, so that this cannot fail.
+    let _ = out.push(char::from(b));
 }
 
 // Whether a byte stands for itself.
