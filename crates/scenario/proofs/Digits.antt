@@ -17,12 +17,3 @@ onward_refused n b bs e =
     let p = past (10 * n + (b - 48)) bs in
     let t = cases_Bool (decimal b) in
     grind (arith, nat_tests)
-
-pub onward_more : (n b m : ℕ) (bs : List ℕ) → Some m ≡ joined n b → onward n (b ∷ bs) ≡ onward m bs
-onward_more n b m bs e =
-    let t = cases_Bool (decimal b) in
-    grind (arith, nat_tests)
-
-pub numeral_is : (bs : List ℕ) → false ≡ eqb (length bs) 0 → numeral bs ≡ onward 0 bs
-numeral_is [] h = absurd (false≢true h)
-numeral_is (b ∷ bs) h = refl
