@@ -2,8 +2,10 @@
 use Rattle.std.proofs.Common.{◌≡◌, ℕ, ◌+◌, ◌*◌, ◌/◌, ◌%◌, ◌<◌, false, List, [], ◌∷◌, ◌++◌, Some, refl, ◌∙◌, arith}
 use Rattle.std.proofs.lemmas.Bool.{cond_both}
 use Rattle.std.proofs.lemmas.Bool.Decides.{nat_tests}
-use Rattle.std.specs.List.{AllByRecursion}
-use Rattle.scenario.specs.Words.{words, space}
+use Rattle.std.specs.List.{All, AllByRecursion}
+use Rattle.std.proofs.lemmas.List.Elements.{All-from_recursion, All-nil, All-append}
+use Rattle.std.proofs.lemmas.List.Splits.{slice_split_none}
+use Rattle.scenario.specs.Words.{space}
 use Rattle.scenario.specs.Escapes.{plain, hex, written, spelt, nibble, read, decoded, ComesBack, OneWord}
 
 -- the word of a byte that does not stand for itself
@@ -38,20 +40,19 @@ pub comes_back : ComesBack
 comes_back [] h = refl
 comes_back (b ∷ bs) h = decoded_written b (spelt bs) ∙ read_spelt (b ∷ bs) h
 
-longer_word : (b : ℕ) (w : List ℕ) → space b ≡ false → words w ≡ w ∷ [] → words (b ∷ w) ≡ (b ∷ w) ∷ []
-longer_word b w h e = grind arith
+-- no byte of what is written is a space
+hex_clear : (n : ℕ) → space (hex n) ≡ false
+hex_clear n = grind (arith, nat_tests)
 
-hex_word : (n : ℕ) → space (hex n) ≡ false
-hex_word n = grind (arith, nat_tests)
+written_clear : (b : ℕ) → All (λ c. space c ≡ false) (written b)
+written_clear b =
+    All-from_recursion (λ c. space c ≡ false) (written b)
+    (cond_both (plain b) (b ∷ []) (escape b) (AllByRecursion (λ c. space c ≡ false)) (λ p. (grind (arith, nat_tests), tt)) (λ p. (refl, (hex_clear (b / 16), (hex_clear (b % 16), tt)))))
 
-spelt_word : (bs : List ℕ) → words (spelt bs) ≡ spelt bs ∷ []
-spelt_word [] = refl
-spelt_word (b ∷ bs) =
-    let i = spelt_word bs in
-    cond_both (plain b) (b ∷ []) (escape b) (λ x. words (x ++ spelt bs) ≡ (x ++ spelt bs) ∷ [])
-    (λ p. longer_word b _ (grind (arith, nat_tests)) i)
-    (λ p. longer_word 37 _ refl (longer_word (hex (b / 16)) _ (hex_word (b / 16)) (longer_word (hex (b % 16)) _ (hex_word (b % 16)) i)))
+spelt_clear : (bs : List ℕ) → All (λ c. space c ≡ false) (spelt bs)
+spelt_clear [] = All-nil (λ c. space c ≡ false)
+spelt_clear (b ∷ bs) = All-append (λ c. space c ≡ false) (written b) (spelt bs) (written_clear b) (spelt_clear bs)
 
 pub one_word : OneWord
 one_word [] = refl
-one_word (b ∷ bs) = spelt_word (b ∷ bs)
+one_word (b ∷ bs) = slice_split_none space (spelt (b ∷ bs)) (spelt_clear (b ∷ bs))

@@ -1,10 +1,10 @@
 -- What a word stands for, by its characters.
-use Rattle.std.proofs.Common.{◌≡◌, ℕ, Bool, true, false, cond, List, [], ◌∷◌, is_some, ◌==◌, Some, None, Option, refl, ap, arith}
+use Rattle.std.proofs.Common.{◌≡◌, ℕ, true, cond, List, [], ◌∷◌, is_some, ◌==◌, Some, None, Option, refl, arith}
 use Rattle.std.specs.List.{flat_map, list_all}
 use Rattle.std.specs.Option.{option_to_list}
 use Rattle.std.proofs.lemmas.Bool.{cases_Bool}
 use Rattle.std.proofs.lemmas.Bool.Decides.{nat_tests}
-use Rattle.scenario.specs.Escapes.{nibble, paired, before, alone, chars, read, escaped, plain}
+use Rattle.scenario.specs.Escapes.{nibble, paired, before, alone, chars, read, plain}
 
 -- the bytes, where each stands for one
 abbrev gathered : List (Option ℕ) → Option (List ℕ)
@@ -18,10 +18,10 @@ gathered_more (Some b) cs =
 
 read_chars : (w : List ℕ) → read w ≡ gathered (chars w)
 read_chars [] = refl
-read_chars (b ∷ []) = 
+read_chars (b ∷ []) =
     let t = cases_Bool (plain b) in
     grind (arith, nat_tests)
-read_chars (b ∷ h ∷ []) = 
+read_chars (b ∷ h ∷ []) =
     let t = cases_Bool (plain b) in
     let u = cases_Bool (plain h) in
     grind (arith, nat_tests)

@@ -1,8 +1,8 @@
 -- The digits of a number, one after another.
-use Rattle.std.proofs.Common.{◌≡◌, ℕ, ◌+◌, ◌-◌, ◌*◌, ◌^◌, ◌≤◌, false, eqb, List, [], ◌∷◌, length, Some, None, refl, arith}
-use Rattle.std.proofs.lemmas.Bool.{cases_Bool, false≢true}
+use Rattle.std.proofs.Common.{◌≡◌, ℕ, ◌+◌, ◌-◌, ◌*◌, ◌^◌, ◌≤◌, List, [], ◌∷◌, None, arith}
+use Rattle.std.proofs.lemmas.Bool.{cases_Bool}
 use Rattle.std.proofs.lemmas.Bool.Decides.{nat_tests}
-use Rattle.scenario.specs.Numbers.{decimal, joined, onward, numeral}
+use Rattle.scenario.specs.Numbers.{decimal, joined, onward}
 
 -- a number that is too large stays so
 past : (n : ℕ) (bs : List ℕ) → 2 ^ 64 ≤ n → onward n bs ≡ None

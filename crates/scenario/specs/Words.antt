@@ -1,5 +1,5 @@
 -- A line and its words.
-use Rattle.std.specs.Prelude.{ℕ, ◌+◌, Bool, true, cond, List, [], ◌∷◌, length, ◌==◌}
+use Rattle.std.specs.Prelude.{ℕ, ◌+◌, Bool, true, List, [], ◌∷◌, length, ◌==◌}
 use Rattle.std.specs.List.{slice_split}
 
 -- an empty line, or one that begins with '#'

@@ -14,7 +14,7 @@ pub struct Word<'a> {
     pub column: usize,
 }
 
-// A walk over the words of a line.
+// A walk over the words of a line. The next one begins at `at`, which is past the end after the last.
 #[derive(Drop)]
 pub struct Words<'a> {
     line: &'a [u8],
@@ -42,7 +42,7 @@ impl<'a> Words<'a> {
         Words { line, at: 0 }
     }
 
-    // The same as `next`.
+    // The same as `next`, under the name that callers know.
     pub fn next_word(&mut self) -> Option<Word<'a>>
         ensures value { option_map seen result ≡ head (yet self.old) }
         ensures after { yet self.new ≡ tail (yet self.old) }
@@ -60,7 +60,6 @@ impl<'a> Iterator for Words<'a> {
     ghost remaining = { item_count yet };
 
     fn next(&mut self) -> Option<Word<'a>> {
-        // After the last word `at` is past the line's end.
         let left = self.line.get(self.at..)?;
         let column = self.at + 1;
         let bytes = first_word(left);

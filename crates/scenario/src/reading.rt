@@ -79,7 +79,7 @@ fn hex_byte(high: u8, low: u8) -> Option<u8>
     Some(16 * hex_value(high)? + hex_value(low)?)
 }
 
-// The value of an upper-case hex digit.
+// The value of an upper-case hex digit. `char::to_digit` would read small letters too.
 fn hex_value(digit: u8) -> Option<u8>
     ensures value { result ≡ nibble digit }
     ensures within { IfSome result (λ v. v < 16) }

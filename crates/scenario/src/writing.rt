@@ -28,7 +28,7 @@ fn spell(out: &mut String, text: &[u8]) -> Result<(), AllocError>
     Ok(())
 }
 
-// Appends what is written of one byte.
+// Appends what is written of one byte. A `write!` would promise nothing of what it leaves where it fails.
 fn put(out: &mut String, b: u8)
     requires { string_len out.old + 3 ≤ string_capacity out.old }
     ensures after { string_bytes out.new ≡ string_bytes out.old ++ written b }
@@ -59,10 +59,10 @@ fn put_ascii(out: &mut String, b: u8)
 pub(crate) fn is_plain(b: u8) -> bool
     ensures { result ≡ plain b }
 {
-    matches!(b, b'!'..=b'~') && b != b'%'
+    b.is_ascii_graphic() && b != b'%'
 }
 
-// The upper-case hex digit of a number below 16.
+// The upper-case hex digit of a number below 16. `char::from_digit` gives small letters.
 fn hex_digit(n: u8) -> u8
     requires { n < 16 }
     ensures value { result ≡ hex n }
