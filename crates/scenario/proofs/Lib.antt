@@ -1,4 +1,3 @@
-mod Cuts
 mod Digits
 mod Back
 mod Chars

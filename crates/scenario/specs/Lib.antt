@@ -1,4 +1,5 @@
 pub mod Words
+pub mod Rest
 pub mod Walk
 pub mod Numbers
 pub mod Escapes

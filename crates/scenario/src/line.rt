@@ -1,11 +1,10 @@
 // A line of a scenario: whether it is passed over, and its words.
-ghost use Rattle.std.specs.Prelude.{◌≡◌, take, not};
+ghost use Rattle.std.specs.Prelude.{◌≡◌, ◌+◌, ◌<◌, ◌^◌, ◌∷◌, length};
 ghost use Rattle.std.specs.Option.{option_map};
-ghost use Rattle.std.specs.List.{before_first};
 ghost use Rattle.std.specs.Iterator.{YieldsFirstBy, item_count};
 ghost use Rattle.std.specs.Str.{bytes_eq};
-ghost use Rattle.scenario.specs.Words.{blank, space, words, placed};
-ghost use Rattle.scenario.specs.Walk.{seen, yet, head, tail};
+ghost use Rattle.scenario.specs.Words.{blank, words, placed};
+ghost use Rattle.scenario.specs.Rest.{rest_len, rest_words};
 
 // A word of a line, with the column where it begins, from 1.
 #[derive(Clone, Copy)]
@@ -14,11 +13,14 @@ pub struct Word<'a> {
     pub column: usize,
 }
 
-// A walk over the words of a line. The next one begins at `at`, which is past the end after the last.
+// A walk over the words of a line.
 #[derive(Drop)]
 pub struct Words<'a> {
-    line: &'a [u8],
-    at: usize,
+    // What is left of the line, from the next word on; nothing after the last.
+    left: Option<&'a [u8]>,
+    // Where that begins in the line, from 1.
+    column: usize,
+    ghost fits: { column + rest_len left < 2 ^ 64 },
 }
 
 // Whether a line is passed over.
@@ -36,10 +38,15 @@ pub fn is_word(word: &[u8], name: &[u8]) -> bool
 }
 
 impl<'a> Words<'a> {
+    ghost use Rattle.scenario.specs.Walk.{seen, yet, head, tail};
+
     pub fn new(line: &'a [u8]) -> Words<'a>
         ensures { yet result ≡ placed 1 (words line.now) }
     {
-        Words { line, at: 0 }
+        Words {
+            left: Some(line),
+            column: 1,
+        }
     }
 
     // The same as `next`, under the name that callers know.
@@ -53,6 +60,8 @@ impl<'a> Words<'a> {
 
 // An empty word comes where two spaces meet or one stands at an end.
 impl<'a> Iterator for Words<'a> {
+    ghost use Rattle.scenario.specs.Walk.{seen, yet};
+
     type Item = Word<'a>;
 
     ghost next_gives = { YieldsFirstBy seen yet };
@@ -60,17 +69,21 @@ impl<'a> Iterator for Words<'a> {
     ghost remaining = { item_count yet };
 
     fn next(&mut self) -> Option<Word<'a>> {
-        let left = self.line.get(self.at..)?;
-        let column = self.at + 1;
-        let bytes = first_word(left);
-        self.at += bytes.len() + 1;
+        let (bytes, left) = split_word(self.left?);
+        let column = self.column;
+        self.column += bytes.len() + 1;
+        self.left = left;
         Some(Word { bytes, column })
     }
 }
 
-fn first_word(line: &[u8]) -> &[u8]
-    ensures { result.now ≡ before_first space line.now }
+// The first word of a line, and what stands behind the space after it.
+fn split_word(line: &[u8]) -> (&[u8], Option<&[u8]>)
+    ensures words { words line.now ≡ result.0.now ∷ rest_words result.1 }
+    ensures lengths { length result.0.now + rest_len result.1 ≡ length line.now }
 {
-    let end = line.iter().position(|b| *b == b' ').unwrap_or(line.len());
-    &line[..end]
+    match line.iter().position(|b| *b == b' ') {
+        Some(end) => (&line[..end], Some(&line[end + 1..])),
+        None => (line, None),
+    }
 }
