@@ -1,43 +1,39 @@
--- Tables and queues seen through what their entries stand for.
-use Rattle.std.proofs.Common.{◌≡◌, ℕ, Bool, not, ltb, List, [], ◌∷◌, ◌++◌, map, length, Result, refl, ap, ◌∙◌, arith}
-use Rattle.std.proofs.lemmas.List.{length-map, map_push}
+-- Tables seen through the paths that their entries stand under.
+use Rattle.std.proofs.Common.{◌≡◌, ℕ, not, ltb, List, [], ◌∷◌, length, filter, refl, arith}
+use Rattle.std.proofs.lemmas.List.{length-map}
 use Rattle.std.proofs.lemmas.Bool.{cases_Bool}
-use Rattle.paths.specs.Names.{same_path}
-use Rattle.paths.specs.Order.{before_path}
-use Rattle.paths.specs.Model.{names}
-use Rattle.paths.specs.declared.path.Path.{Path}
-use Rattle.tables.specs.declared.full.NoPlace.{NoPlace}
-use Rattle.tables.specs.declared.keys.Entry.{Entry}
-use Rattle.tables.specs.Entries.{under, entered as entered_in}
-use Rattle.tables.specs.Lists.{changed}
-use Rattle.tables.specs.Room.{fitted}
-use Rattle.tables.proofs.Views.{any_map, map_placed, fitted_map}
-use Rattle.simulated.specs.Paths.{holds, entered}
-use Rattle.simulated.specs.Model.{path_of}
+use Rattle.paths.specs.Names.{Names, same_path}
+use Rattle.paths.specs.Order.{before_path, order_path}
+use Rattle.paths.specs.Equal.{path_ties}
+use Rattle.tables.specs.declared.entry.Entry.{Entry}
+use Rattle.tables.specs.Entries.{under, before, entered as entered_in}
+use Rattle.tables.specs.Lists.{any, changed, placed}
+use Rattle.simulated.specs.Paths.{keys, holds, entered, parted}
 
--- an entry that is changed keeps its path
-kept_paths : (t : Entry Path (Unit {0}) → Bool) (xs : List (Entry Path (Unit {0}))) → map path_of (changed t (λ e. record { key = e.key; value = tt }) xs) ≡ map path_of xs
-kept_paths t [] = refl
-kept_paths t (x ∷ xs) = let i = kept_paths t xs in let b = cases_Bool (t x) in grind arith
+module _ (k : Names) where
+  pub held_keys : (es : List (Entry Names (Unit {0}))) → any (under order_path k) es ≡ holds k (keys es)
+  held_keys [] = refl
+  held_keys (e ∷ es) = let t = path_ties e.key k in let i = held_keys es in grind arith
+
+  pub parted_keys : (es : List (Entry Names (Unit {0}))) → keys (filter (λ e. not (under order_path k e)) es) ≡ parted k (keys es)
+  parted_keys [] = refl
+  parted_keys (e ∷ es) = let t = path_ties e.key k in let i = parted_keys es in let b = cases_Bool (same_path e.key k) in grind arith
+
+  placed_keys : (es : List (Entry Names (Unit {0}))) → keys (placed (λ e. not (before order_path k e)) (record { key = k; value = tt }) es) ≡ placed (λ p. not (before_path p k)) k (keys es)
+  placed_keys [] = refl
+  placed_keys (e ∷ es) = let i = placed_keys es in let b = cases_Bool (before_path e.key k) in grind arith
+
+  -- an entry that is changed keeps its path
+  kept_keys : (es : List (Entry Names (Unit {0}))) → keys (changed (under order_path k) (λ e. record { key = e.key; value = tt }) es) ≡ keys es
+  kept_keys [] = refl
+  kept_keys (e ∷ es) = let i = kept_keys es in let b = cases_Bool (under order_path k e) in grind arith
 
 -- what a table replies, and the paths that it then has
-pub entered_paths : (n : ℕ) (k : Path) (xs ys : List (Entry Path (Unit {0}))) (r : Result (Unit {0}) NoPlace)
-    → r ≡ (entered_in (λ p q. same_path (names p) (names q)) (λ p q. before_path (names p) (names q)) n k tt xs).0
-    → ys ≡ (entered_in (λ p q. same_path (names p) (names q)) (λ p q. before_path (names p) (names q)) n k tt xs).1
-    → (r ≡ (entered n (names k) (map path_of xs)).0) × (map path_of ys ≡ (entered n (names k) (map path_of xs)).1)
-entered_paths n k xs ys r e i =
-    let a = any_map path_of (λ x. same_path x (names k)) xs in
-    let c = kept_paths (under (λ p q. same_path (names p) (names q)) k) xs in
-    let p = map_placed path_of (λ x. not (before_path x (names k))) (record { key = k; value = tt }) xs in
-    let l = length-map xs path_of in
-    let b = cases_Bool (holds (names k) (map path_of xs)) in
-    let f = cases_Bool (ltb (length xs) n) in
+pub entered_keys : (n : ℕ) (k : Names) (es : List (Entry Names (Unit {0})))
+    → ((entered_in order_path n k tt es).0 ≡ (entered n k (keys es)).0) × (keys (entered_in order_path n k tt es).1 ≡ (entered n k (keys es)).1)
+entered_keys n k es =
+    let a = held_keys k es in let c = kept_keys k es in let p = placed_keys k es in
+    let l = length-map es (λ e. e.key) in
+    let b = cases_Bool (holds k (keys es)) in
+    let f = cases_Bool (ltb (length es) n) in
     (grind arith, grind arith)
-
--- what a queue replies, and what its entries then stand for
-pub pushed_seen : {X Y : Type 0} (f : X → Y) (n : ℕ) (x : X) (xs ys : List X) (r : Result (Unit {0}) NoPlace)
-    → r ≡ (fitted n xs (xs ++ x ∷ [])).0 → ys ≡ (fitted n xs (xs ++ x ∷ [])).1
-    → (r ≡ (fitted n (map f xs) (map f xs ++ f x ∷ [])).0) × (map f ys ≡ (fitted n (map f xs) (map f xs ++ f x ∷ [])).1)
-pushed_seen f n x xs ys r e i =
-    let w = fitted_map f n xs (xs ++ x ∷ []) (map_push f xs x) in
-    (e ∙ w.0, ap (map f) i ∙ w.1)

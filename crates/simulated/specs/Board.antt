@@ -1,8 +1,10 @@
 -- What a slot board answers, and what becomes of it.
-use Rattle.std.specs.Prelude.{ℕ, ◌*◌, ◌/◌, Bool, cond, ◌&&◌, List, [], length, None, nat_le}
+use Rattle.std.specs.Prelude.{◌≡◌, ℕ, ◌*◌, ◌/◌, Bool, true, false, cond, ◌&&◌, List, [], length, None, Ok, Err, Result, nat_le}
 use Rattle.paths.specs.Names.{Names}
 use Rattle.outside.specs.declared.cause.BackendCause.TheVariants.{WatchNotFound, MaxFilesWatch}
 use Rattle.outside.specs.Requests.{Request, watch, unwatch, Answer, done, failed}
+use Rattle.simulated.specs.declared.board.error.BoardError.{BoardError}
+use Rattle.simulated.specs.declared.board.error.BoardError.TheVariants.{Slots, NoMemory}
 use Rattle.simulated.specs.Paths.{holds, takes, joined, parted}
 
 -- The number of its slots, and the paths that they hold.
@@ -17,6 +19,13 @@ allowed slots = nat_le 1 slots && nat_le slots 64
 -- A board that holds nothing.
 abbrev pub bare : ℕ → Board
 bare slots = record { slots = slots; held = [] }
+
+-- What comes of making a board: the number of slots is refused just when it is not allowed; else the board holds nothing,
+-- or there is no memory.
+abbrev pub Made : ℕ → Result Board BoardError → Type 0
+Made slots (Ok b) = (allowed slots ≡ true) × (b ≡ bare slots)
+Made slots (Err Slots) = allowed slots ≡ false
+Made slots (Err NoMemory) = allowed slots ≡ true
 
 -- The same slots, with these paths.
 abbrev pub with_held : List Names → Board → Board

@@ -2,6 +2,6 @@ pub mod Paths
 pub mod Board
 pub mod Roll
 pub mod Filters
-pub mod Model
+pub mod Prepared
 pub mod Meanings
 pub mod Sets

@@ -1,9 +1,14 @@
 -- Lists of paths in their order.
-use Rattle.std.specs.Prelude.{ℕ, Bool, cond, not, ◌||◌, List, length, Ok, Err, filter, Result, nat_lt}
+use Rattle.std.specs.Prelude.{ℕ, Bool, cond, not, ◌||◌, List, length, map, Ok, Err, filter, Result, nat_lt}
 use Rattle.paths.specs.Names.{Names, same_path}
 use Rattle.paths.specs.Order.{before_path}
 use Rattle.tables.specs.declared.full.NoPlace.{NoPlace}
+use Rattle.tables.specs.declared.entry.Entry.{Entry}
 use Rattle.tables.specs.Lists.{any, placed}
+
+-- The paths that a table's entries stand under.
+abbrev pub keys : List (Entry Names (Unit {0})) → List Names
+keys es = map (λ e. e.key) es
 
 -- Whether p stands in the list.
 abbrev pub holds : Names → List Names → Bool

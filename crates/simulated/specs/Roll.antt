@@ -1,4 +1,5 @@
--- What a roll of prepared answers answers, and what becomes of it.
+-- What a roll of prepared answers answers, and what becomes of it. Its answers are those that are left, the first in front;
+-- its book has the paths.
 use Rattle.std.specs.Prelude.{cond, List, [], ◌∷◌, ◌++◌, None, Result}
 use Rattle.paths.specs.Names.{Names}
 use Rattle.outside.specs.declared.cause.BackendCause.{BackendCause}
@@ -7,12 +8,8 @@ use Rattle.outside.specs.Requests.{Request, watch, unwatch, Answer, done, failed
 use Rattle.tables.specs.declared.full.NoPlace.{NoPlace}
 use Rattle.tables.specs.Lists.{tail}
 use Rattle.tables.specs.Room.{fitted}
+use Rattle.simulated.specs.declared.roll.Roll.{Roll}
 use Rattle.simulated.specs.Paths.{takes, joined, parted}
-
--- The answers that are left, the first in front, and the paths on the book.
-pub record Roll : Type 0 where
-  pub answers : List Answer
-  pub book : List Names
 
 -- A roll with nothing on it.
 abbrev pub blank : Roll

@@ -1,32 +1,20 @@
 -- What stands in a list of paths after a change.
-use Rattle.std.specs.Prelude.{◌≡◌, Bool, true, false, not, ◌&&◌, ◌||◌, List, [], ◌∷◌, filter}
-use Rattle.std.proofs.Common.{sym, ap, ◌∙◌, inl, inr, arith}
+use Rattle.std.specs.Prelude.{◌≡◌, Bool, true, false, not, ◌&&◌, ◌||◌, List, [], ◌∷◌}
+use Rattle.std.proofs.Common.{ap, inl, inr, arith}
 use Rattle.std.proofs.lemmas.Bool.{cases_Bool}
-use Rattle.std.proofs.lemmas.Bool.Decides.{same_from_decides}
+use Rattle.std.proofs.lemmas.Map.Views.{any-filter_same}
 use Rattle.paths.specs.Names.{Names, same_path}
 use Rattle.paths.specs.Order.{before_path}
-use Rattle.paths.specs.Equal.{same_path_true, same_path_same, decides_same_path}
+use Rattle.paths.specs.Equal.{same_path_true, names_equiv}
 use Rattle.tables.specs.Lists.{any, placed}
 use Rattle.simulated.specs.Paths.{holds, joined, parted}
 
-module _ {X : Type 0} (t : X → Bool) where
-  any_placed : (u : X → Bool) (y : X) (xs : List X) → any t (placed u y xs) ≡ (t y || any t xs)
-  any_placed u y [] = let b = cases_Bool (t y) in grind arith
-  any_placed u y (x ∷ xs) =
-      let i = any_placed u y xs in
-      let a = cases_Bool (u x) in let b = cases_Bool (t y) in let d = cases_Bool (t x) in
-      grind arith
-
-  -- of the entries that pass t, all or none are kept
-  any_kept : (u : X → Bool) (w : Bool) → ((x : X) → t x ≡ true → u x ≡ w) → (xs : List X) → any t (filter u xs) ≡ (w && any t xs)
-  any_kept u w h [] = let b = cases_Bool w in grind arith
-  any_kept u w h (x ∷ xs) =
-      let i = any_kept u w h xs in
-      let a = cases_Bool w in let d = cases_Bool (u x) in
-      elim (cases_Bool (t x)) [ inl e ↦ let k = h x e in grind arith | inr e ↦ grind arith ]
-
-same_turned : (p q : Names) → same_path p q ≡ same_path q p
-same_turned p q = same_from_decides (same_path p q) (same_path q p) (decides_same_path p q) ((λ k. sym (same_path_true q p k)), (λ e. ap (λ x. same_path x p) (sym e) ∙ same_path_same p))
+any_placed : {X : Type 0} (t u : X → Bool) (y : X) (xs : List X) → any t (placed u y xs) ≡ (t y || any t xs)
+any_placed t u y [] = let b = cases_Bool (t y) in grind arith
+any_placed t u y (x ∷ xs) =
+    let i = any_placed t u y xs in
+    let a = cases_Bool (u x) in let b = cases_Bool (t y) in let d = cases_Bool (t x) in
+    grind arith
 
 module _ (p q : Names) (xs : List Names) where
   -- p stands in the list, so that to join it changes nothing
@@ -41,11 +29,11 @@ module _ (p q : Names) (xs : List Names) where
   joined_on =
       elim (cases_Bool (holds p xs)) [
         | inl e ↦ let k = held_on e in grind arith
-        | inr e ↦ let k = any_placed (λ x. same_path x q) (λ x. not (before_path x p)) p xs in let s = same_turned p q in grind arith
+        | inr e ↦ let k = any_placed (λ x. same_path x q) (λ x. not (before_path x p)) p xs in let s = names_equiv.symm p q in grind arith
       ]
 
   pub parted_off : holds q (parted p xs) ≡ (not (same_path q p) && holds q xs)
-  parted_off = any_kept (λ x. same_path x q) (λ x. not (same_path x p)) (not (same_path q p)) (λ x e. ap (λ y. not (same_path y p)) (same_path_true x q e)) xs
+  parted_off = any-filter_same (λ x. same_path x q) (λ x. not (same_path x p)) (not (same_path q p)) (λ x e. ap (λ y. not (same_path y p)) (same_path_true x q e)) xs
 
   -- p does not stand in the list, so that to part from it changes nothing
   pub unheld_off : holds p xs ≡ false → holds q xs ≡ (not (same_path q p) && holds q xs)

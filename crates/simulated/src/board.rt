@@ -1,7 +1,6 @@
 // A board of 1 to 64 slots, each of which holds one path or none.
-ghost use Rattle.std.specs.Prelude.{◌≤◌};
-
 use crate::path_set::PathSet;
+use std::marker::Model;
 
 pub mod error;
 pub mod making;
@@ -11,6 +10,15 @@ pub mod watching;
 pub struct Board {
     slots: usize,
     held: PathSet<64>,
-    ghost some: { 1 ≤ slots },
-    ghost few: { slots ≤ 64 },
+}
+
+impl Model for Board {
+    ghost use Rattle.std.specs.Prelude.{◌≡◌, ◌≤◌, true, length};
+    ghost use Rattle.simulated.specs.Board.{Board as Seen, allowed};
+
+    ghost Value = { Seen };
+
+    ghost view = { λ b. record { slots = b.slots; held = b.held } };
+
+    ghost invariant = { λ b. (allowed b.slots ≡ true) × (length b.held ≤ b.slots) };
 }

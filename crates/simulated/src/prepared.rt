@@ -1,22 +1,37 @@
 // An answer that is prepared for a backend to give.
 ghost use Rattle.std.specs.Prelude.{◌≡◌, Some, None};
-ghost use Rattle.paths.specs.Model.{names};
 ghost use Rattle.outside.specs.Requests.{done as is_done, failed as has_failed};
-ghost use Rattle.simulated.specs.Model.{answer_of};
 
 use outside::{BackendCause, Carried};
 use paths::Path;
+use std::marker::Model;
 
-// The path counts only where the outcome is a cause.
+// The path of a cause stands beside the outcome, since no result holds a path.
 #[derive(Clone, Copy)]
 pub struct Prepared {
     pub(crate) outcome: Result<(), BackendCause>,
     pub(crate) carried: Carried,
 }
 
+impl Model for Prepared {
+    ghost use Rattle.outside.specs.Requests.{Answer};
+    ghost use Rattle.outside.specs.Model.{answered};
+    ghost use Rattle.simulated.specs.Prepared.{outcome_of, path_of, bare, outcome_kept, path_kept};
+
+    ghost Value = { Answer };
+
+    ghost view = { λ a. answered a.outcome a.carried };
+
+    ghost invariant = { λ a. bare a.outcome a.carried };
+
+    ghost inverse = { λ a. record { outcome = outcome_of a; carried = path_of a } };
+
+    ghost inverse_ok = { λ a h i. record { outcome = outcome_kept a.outcome a.carried i; carried = path_kept a.outcome a.carried h i } };
+}
+
 impl Prepared {
     pub fn done() -> Prepared
-        ensures { answer_of result ≡ is_done }
+        ensures { result ≡ is_done }
     {
         Prepared {
             outcome: Ok(()),
@@ -25,7 +40,7 @@ impl Prepared {
     }
 
     pub fn failed(cause: BackendCause) -> Prepared
-        ensures { answer_of result ≡ has_failed cause None }
+        ensures { result ≡ has_failed cause None }
     {
         Prepared {
             outcome: Err(cause),
@@ -34,7 +49,7 @@ impl Prepared {
     }
 
     pub fn failed_at(cause: BackendCause, path: &Path) -> Prepared
-        ensures { answer_of result ≡ has_failed cause (Some (names path.now)) }
+        ensures { result ≡ has_failed cause (Some path.now) }
     {
         let mut answer = Prepared::failed(cause);
         answer.carried.put(path);

@@ -1,8 +1,7 @@
 // A roll of at most 1024 prepared answers, with a book of at most 128 paths.
 ghost use Rattle.std.specs.Prelude.{◌≡◌, true, is_ok, IfOk, None};
-ghost use Rattle.outside.specs.Model.{answered, carries};
+ghost use Rattle.outside.specs.Model.{answered};
 ghost use Rattle.simulated.specs.Roll.{blank, reply, filed, next as next_of, used};
-ghost use Rattle.simulated.specs.Model.{answer_of, roll};
 
 use crate::path_set::PathSet;
 use crate::prepared::Prepared;
@@ -20,7 +19,7 @@ pub struct Roll {
 
 impl Roll {
     pub fn new(heap: Global) -> Result<Roll, AllocError>
-        ensures { IfOk result (λ x. roll x ≡ blank) }
+        ensures { IfOk result (λ x. x ≡ blank) }
     {
         let answers = Queue::new(heap)?;
         let book = PathSet::new(heap)?;
@@ -28,25 +27,20 @@ impl Roll {
     }
 
     pub fn prepare(&mut self, answer: Prepared) -> Result<(), NoPlace>
-        ensures value { result ≡ reply (answer_of answer) (roll self.old) }
-        ensures after { roll self.new ≡ filed (answer_of answer) (roll self.old) }
+        ensures value { result ≡ reply answer self.old }
+        ensures after { self.new ≡ filed answer self.old }
     {
         self.answers.push_back(answer)
     }
 
     // Gives the first answer, which is used up.
     fn next(&mut self, carried: &mut Carried) -> Result<(), BackendCause>
-        ensures value { answered result (carries carried.new) ≡ next_of (roll self.old).answers }
-        ensures none { is_ok result ≡ true → carries carried.new ≡ None }
-        ensures after { roll self.new ≡ used (roll self.old) }
+        ensures value { answered result carried.new ≡ next_of self.old.answers }
+        ensures none { is_ok result ≡ true → carried.new ≡ None }
+        ensures after { self.new ≡ used self.old }
     {
-        carried.clear();
-        let Some(answer) = self.answers.pop_front() else {
-            return Ok(());
-        };
-        if answer.outcome.is_err() {
-            *carried = answer.carried;
-        }
+        let answer = self.answers.pop_front().unwrap_or_else(Prepared::done);
+        *carried = answer.carried;
         answer.outcome
     }
 }

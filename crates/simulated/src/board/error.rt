@@ -4,7 +4,7 @@ ghost use Rattle.simulated.specs.declared.board.error.BoardError.TheVariants.{No
 
 use std::alloc::AllocError;
 
-#[derive(Clone, Copy)]
+#[derive(Clone, Copy, Debug, PartialEq, Eq)]
 pub enum BoardError {
     // The number of slots is not 1 to 64.
     Slots,

@@ -1,7 +1,6 @@
 // Making a board, and how full it is.
-ghost use Rattle.std.specs.Prelude.{◌≡◌};
-ghost use Rattle.simulated.specs.Board.{fill as fill_of};
-ghost use Rattle.simulated.specs.Model.{board, Made};
+ghost use Rattle.std.specs.Prelude.{◌≡◌, true};
+ghost use Rattle.simulated.specs.Board.{allowed, fill as fill_of, Made};
 
 use super::Board;
 use super::error::BoardError;
@@ -12,7 +11,7 @@ impl Board {
     pub fn new(heap: Global, slots: usize) -> Result<Board, BoardError>
         ensures { Made slots result }
     {
-        if slots < 1 || slots > 64 {
+        if !(1..=64).contains(&slots) {
             return Err(BoardError::Slots);
         }
         let held = PathSet::new(heap)?;
@@ -21,7 +20,8 @@ impl Board {
 
     // How many of a hundred slots would hold a path, the fraction dropped.
     pub fn fill(&self) -> usize
-        ensures { result ≡ fill_of (board self.now) }
+        ensures value { result ≡ fill_of self.now }
+        ensures slots { allowed self.now.slots ≡ true }
     {
         self.held.len() * 100 / self.slots
     }

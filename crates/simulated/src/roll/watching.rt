@@ -1,46 +1,35 @@
 // A roll as a backend.
-ghost use Rattle.std.specs.Prelude.{◌≡◌};
 ghost use Rattle.simulated.specs.Paths.{holds};
-ghost use Rattle.simulated.specs.Roll.{answer, after as after_on};
-ghost use Rattle.simulated.specs.Model.{roll};
-ghost use Rattle.simulated.specs.Meanings.{roll_did};
+ghost use Rattle.simulated.specs.Roll.{answer, after};
+ghost use Rattle.simulated.specs.Meanings.{Due, roll_did};
 
 use super::Roll;
 use outside::{Backend, BackendCause, Carried};
 use paths::Path;
 
 impl Backend for Roll {
-    ghost book = { λ b p. holds p (roll b).book };
+    ghost book = { λ b p. holds p b.book };
 
-    ghost did = { λ b q a c. (a ≡ answer (roll b) q) × (roll c ≡ after_on (roll b) q) };
+    ghost did = { Due answer after };
 
-    ghost means = { λ b q a c d. roll_did (roll b) (roll c) q a d };
+    ghost means = { roll_did };
 
     fn watch(&mut self, path: &Path, carried: &mut Carried) -> Result<(), BackendCause> {
-        if !self.book.contains(path) && self.book.len() >= 128 {
+        if !self.book.has_place(path, 128) {
             carried.clear();
             return Err(BackendCause::MaxFilesWatch);
         }
-        match self.next(carried) {
-            Ok(()) => {
-                let _ = self.book.insert(path);
-                Ok(())
-            }
-            Err(cause) => Err(cause),
-        }
+        self.next(carried)?;
+        let _ = self.book.insert(path);
+        Ok(())
     }
 
+    // A path that was not watched is off the book too.
     fn unwatch(&mut self, path: &Path, carried: &mut Carried) -> Result<(), BackendCause> {
-        match self.next(carried) {
-            Ok(()) => {
-                self.book.remove(path);
-                Ok(())
-            }
-            Err(BackendCause::WatchNotFound) => {
-                self.book.remove(path);
-                Err(BackendCause::WatchNotFound)
-            }
-            Err(cause) => Err(cause),
+        let outcome = self.next(carried);
+        if matches!(outcome, Ok(()) | Err(BackendCause::WatchNotFound)) {
+            self.book.remove(path);
         }
+        outcome
     }
 }
