@@ -6,6 +6,7 @@ pub mod error;
 pub mod making;
 pub mod watching;
 
+// A model, since what holds of every board is no part of what an answer says the next board is.
 #[derive(Drop)]
 pub struct Board {
     slots: usize,

@@ -11,6 +11,7 @@ use tables::{NoPlace, Queue};
 
 pub mod watching;
 
+// No model: its fields have theirs, and clauses see answers and paths.
 #[derive(Drop)]
 pub struct Roll {
     answers: Queue<Prepared, 1024>,

@@ -1,4 +1,4 @@
-// A roll as a backend.
+// A roll as a backend. A board answers of itself and a roll as prepared, so that only the test for a place is one method of both.
 ghost use Rattle.simulated.specs.Paths.{holds};
 ghost use Rattle.simulated.specs.Roll.{answer, after};
 ghost use Rattle.simulated.specs.Meanings.{Due, roll_did};
