@@ -1,6 +1,5 @@
 -- The order of the texts, a slash lowest, is that of the names.
-use Rattle.std.proofs.Common.{◌≡◌, ℕ, ◌+◌, ◌<◌, ◌≤◌, true, ltb, List, [], ◌∷◌, ◌++◌, length, reverse, get_or, drop, Less, Equal, Greater, refl, ap, ◌∙◌, arith}
-use Rattle.std.proofs.lemmas.List.{drop_more, drop_all}
+use Rattle.std.proofs.Common.{◌≡◌, true, ltb, List, [], ◌∷◌, ◌++◌, reverse, refl, ap, ◌∙◌, arith}
 use Rattle.std.proofs.lemmas.Bool.{and_parts, cases_Bool}
 use Rattle.std.proofs.lemmas.Bool.Decides.{nat_tests}
 use Rattle.paths.specs.Names.{Name, Names, render, plain, good}
@@ -35,15 +34,3 @@ keyed_spell (n ∷ p) (m ∷ q) g h =
 pub keyed_render : (p q : Names) → good p ≡ true → good q ≡ true → keyed (render p) (render q) ≡ order_path p q
 keyed_render p q g h =
     ap (λ t. keyed t (render q)) (render_spell p) ∙ (ap (keyed (spell (reverse p))) (render_spell q) ∙ keyed_spell (reverse p) (reverse q) (plains_out p [] g refl) (plains_out q [] h refl))
-
-pub keyed_more : (t u : List ℕ) (k : ℕ) → k < length t → k < length u → keyed (drop k t) (drop k u) ≡ keyed (get_or t k 0 ∷ drop (k + 1) t) (get_or u k 0 ∷ drop (k + 1) u)
-keyed_more t u k a b = ap (λ x. keyed x (drop k u)) (drop_more t k 0 a) ∙ ap (keyed (get_or t k 0 ∷ drop (k + 1) t)) (drop_more u k 0 b)
-
-pub keyed_longer : (t u : List ℕ) (k : ℕ) → k < length t → length u ≤ k → keyed (drop k t) (drop k u) ≡ Greater
-keyed_longer t u k a b = ap (λ x. keyed x (drop k u)) (drop_more t k 0 a) ∙ ap (keyed (get_or t k 0 ∷ drop (k + 1) t)) (drop_all k u b)
-
-pub keyed_shorter : (t u : List ℕ) (k : ℕ) → length t ≤ k → k < length u → keyed (drop k t) (drop k u) ≡ Less
-keyed_shorter t u k a b = ap (λ x. keyed x (drop k u)) (drop_all k t a) ∙ ap (keyed []) (drop_more u k 0 b)
-
-pub keyed_level : (t u : List ℕ) (k : ℕ) → length t ≤ k → length u ≤ k → keyed (drop k t) (drop k u) ≡ Equal
-keyed_level t u k a b = ap (λ x. keyed x (drop k u)) (drop_all k t a) ∙ ap (keyed []) (drop_all k u b)

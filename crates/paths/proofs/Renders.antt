@@ -1,5 +1,5 @@
 -- The text of a path says its names, and the other way round.
-use Rattle.std.proofs.Common.{◌≡◌, ℕ, ◌+◌, ◌-◌, ◌<◌, ◌≤◌, Bool, true, false, cond, ◌&&◌, eqb, leb, List, [], ◌∷◌, ◌++◌, length, take, drop, set, replicate, sym, refl, ap, ◌∙◌, subst, arith}
+use Rattle.std.proofs.Common.{◌≡◌, ℕ, ◌+◌, ◌-◌, ◌<◌, ◌≤◌, Bool, true, false, ◌&&◌, eqb, leb, List, Some, [], ◌∷◌, ◌++◌, length, take, drop, set, replicate, sym, refl, ap, ◌∙◌, subst, arith}
 use Rattle.std.proofs.lemmas.List.{append-nil, append_assoc, take_at, drop_at, drop-drop, take_more_set, take_all, drop_all, drop-set-lt, drop-replicate, length-append, length-replicate}
 use Rattle.std.proofs.lemmas.Slice.{put_mid-paste}
 use borrow.Rule.Slice.PartMut.{put_mid}
@@ -75,14 +75,6 @@ trimmed_padded size p n le =
     let t : take (length (render p)) (padded size (n ∷ p)) ≡ render p = ap (take (length (render p))) (append_assoc (render p) (47 ∷ n) z) ∙ take_at (render p) ((47 ∷ n) ++ z) (length (render p)) refl in
     ap (λ x. x ++ replicate (length (padded size (n ∷ p)) - length (render p)) 0) t ∙ ap (λ k. render p ++ replicate (k - length (render p)) 0) (length_padded size (n ∷ p) le)
 
-ls_plain : (n : Name) (k at : ℕ) → plain n ≡ true → last_slash n k at ≡ at
-ls_plain [] k at h = refl
-ls_plain (b ∷ n) k at h = let i = ls_plain n (k + 1) at in grind arith
-
-pub ls_slash : (t : List ℕ) (n : Name) (k at : ℕ) → plain n ≡ true → last_slash (t ++ 47 ∷ n) k at ≡ k + length t
-ls_slash [] n k at h = let i = ls_plain n (k + 1) k h in grind arith
-ls_slash (b ∷ t) n k at h = let i = ls_slash t n (k + 1) (cond (eqb b 47) k at) h in omega arith
-
 pub holds_child : (size : ℕ) (text : List ℕ) (len depth : ℕ) (p : Names) (n : Name) → Holds size text len depth p → named n ≡ true → len + length n < size → Holds size (grown text len n) (len + 1 + length n) (depth + 1) (n ∷ p)
 holds_child size text len depth p n h m lt =
     let long = length-append (render p) (47 ∷ n) in
@@ -104,17 +96,15 @@ parts_plain (b ∷ text) cur z h =
     let t = cases_Bool (eqb b 47) in
     grind (arith, and_from)
 
-pub holds_parent : (size : ℕ) (text : List ℕ) (len depth k : ℕ) (p : Names) → Holds size text len depth p → 0 < depth → k ≡ last_slash (render p) 0 0 → Holds size (trimmed text k) k (depth - 1) (up p)
-holds_parent size text len depth k [] h d e = let x = h.3 in absurd (omega arith)
-holds_parent size text len depth k (n ∷ p) h d e =
+pub holds_parent : (size : ℕ) (text : List ℕ) (len depth k : ℕ) (p : Names) → Holds size text len depth p → Some k ≡ last_slash p → Holds size (trimmed text k) k (depth - 1) (up p)
+holds_parent size text len depth k [] h e = absurd (cc)
+holds_parent size text len depth k (n ∷ p) h e =
     let both = and_parts (named n) (good p) h.4 in
-    let mine = and_parts (plain n) _ both.0 in
     let long = length-append (render p) (47 ∷ n) in
     let l = h.1 in
     let w = h.2 in
     let x = h.3 in
-    let q : k ≡ 0 + length (render p) = e ∙ ls_slash (render p) n 0 0 mine.0 in
-    let r : k ≡ length (render p) = omega arith in
+    let r : k ≡ length (render p) = cc in
     (ap (λ t. trimmed t k) h.0 ∙ (ap (λ j. trimmed (padded size (n ∷ p)) j) r ∙ trimmed_padded size p n (omega arith)), r, omega arith, omega arith, both.1)
 
 -- what such bytes are known to hold, they hold
@@ -131,15 +121,19 @@ pushed size text after len depth p n s v e m lt =
     let w = h.2 in
     seal size after (len + (1 + length n)) (depth + 1) (n ∷ p) (e ∙ h.0, omega arith, omega arith, h.3, h.4)
 
-pub popped : (size : ℕ) (text after : List ℕ) (len depth k : ℕ) (p : Names) → Sound size text len depth → parse (take len text) ≡ p → after ≡ trimmed text k → 0 < depth → k ≡ last_slash (render p) 0 0 →
+pub popped : (size : ℕ) (text after : List ℕ) (len depth k : ℕ) (p : Names) → Sound size text len depth → parse (take len text) ≡ p → after ≡ trimmed text k → Some k ≡ last_slash p →
     (parse (take k after) ≡ up p) × Sound size after k (depth - 1)
-popped size text after len depth k p s v e d f =
-    let h = holds_parent size text len depth k p (held size text len depth p s v) d f in
+popped size text after len depth k p s v e f =
+    let h = holds_parent size text len depth k p (held size text len depth p s v) f in
     seal size after k (depth - 1) (up p) (e ∙ h.0, h.1, h.2, h.3, h.4)
 
--- the last slash lies within the text
-pub slash_within : (size : ℕ) (text : List ℕ) (len depth k : ℕ) (p : Names) → Sound size text len depth → parse (take len text) ≡ p → 0 < depth → k ≡ last_slash (render p) 0 0 → k ≤ size
-slash_within size text len depth k p s v d f = (holds_parent size text len depth k p (held size text len depth p s v) d f).2
+-- the last slash lies within the text, and a name behind it
+pub slash_within : (size : ℕ) (text : List ℕ) (len depth k : ℕ) (p : Names) → Sound size text len depth → parse (take len text) ≡ p → Some k ≡ last_slash p → (k ≤ size) × (0 < depth)
+slash_within size text len depth k [] s v f = absurd (cc)
+slash_within size text len depth k (n ∷ p) s v f =
+    let h = held size text len depth (n ∷ p) s v in
+    let w = h.3 in
+    ((holds_parent size text len depth k (n ∷ p) h f).2, omega arith)
 
 -- a text over the front of zeros
 pub filled_is : (size : ℕ) (t u : Text) → u ≡ t → t ++ drop (length t) (replicate size 0) ≡ filled size u

@@ -1,20 +1,12 @@
 -- Comparing paths and going up from them.
-use Rattle.std.proofs.Common.{◌≡◌, ℕ, ◌<◌, ◌≤◌, Bool, true, cond, eqb, List, [], ◌∷◌, length, get_or, drop, Some, Decides, refl, ap, arith}
+use Rattle.std.proofs.Common.{◌≡◌, ℕ, ◌<◌, ◌≤◌, Bool, true, eqb, List, [], ◌∷◌, length, get_or, drop, Some, Decides, ap, arith}
 use Rattle.std.proofs.lemmas.Bool.Decides.{nat_tests, same_from_decides}
 use Rattle.std.proofs.lemmas.Bool.{cases_Bool}
-use Rattle.paths.specs.Names.{Names, same_path, starts_with, up, render, good}
+use Rattle.paths.specs.Names.{Names, same_path, render, good}
 use Rattle.paths.specs.Bytes.{parse}
 use Rattle.paths.proofs.Renders.{parse_render}
 use Rattle.paths.specs.Equal.{decides_same_path}
 use Rattle.paths.specs.Texts.{zeroless, below_root}
-
-pub starts_more : (p q : Names) → 0 < length p → starts_with p q ≡ cond (same_path p q) true (starts_with (up p) q)
-starts_more [] q h = absurd (omega arith)
-starts_more (n ∷ p) q h = refl
-
-pub starts_root : (p q : Names) → length p ≡ 0 → starts_with p q ≡ same_path p q
-starts_root [] q h = refl
-starts_root (n ∷ p) q h = absurd (omega arith)
 
 pub same_rendered : (p q : Names) (t u : List ℕ) (r : Bool) → good p ≡ true → good q ≡ true → t ≡ render p → u ≡ render q → Decides r (t ≡ u) → r ≡ same_path p q
 same_rendered p q t u r g h e f d =

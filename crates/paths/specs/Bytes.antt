@@ -1,7 +1,8 @@
 -- How the bytes of a value hold a path or a name.
-use Rattle.std.specs.Prelude.{◌≡◌, ℕ, ◌+◌, ◌-◌, ◌≤◌, true, cond, [], ◌∷◌, ◌++◌, length, take, drop, replicate, ◌==◌, nat_lt}
-use Rattle.std.specs.declared.cmp.Ordering.TheVariants.{Less, Equal, Greater}
+use Rattle.std.specs.Prelude.{◌≡◌, ℕ, ◌+◌, ◌-◌, ◌≤◌, true, cond, [], ◌∷◌, ◌++◌, length, take, drop, replicate, ◌==◌, map, Some, None, Option}
 use Rattle.std.specs.declared.cmp.Ordering.{Ordering}
+use Rattle.std.specs.Ordering.{nat_cmp}
+use Rattle.std.specs.Cmp.Lexicographic.{slice_cmp}
 use Rattle.paths.specs.Names.{Names, Text, render, good, named}
 
 -- One byte more of the innermost name.
@@ -51,14 +52,10 @@ grown bytes len n = take len bytes ++ (47 ∷ (n ++ drop (len + 1 + length n) by
 abbrev pub trimmed : Text → ℕ → Text
 trimmed bytes k = take k bytes ++ replicate (length bytes - k) 0
 
--- The place of the last slash, or 0, where k bytes were passed and at is the last place so far.
-abbrev pub last_slash : Text → ℕ → ℕ → ℕ
-last_slash [] k at = at
-last_slash (b ∷ bs) k at = last_slash bs (k + 1) (cond (b == 47) k at)
-
--- What stands behind the last slash.
-abbrev pub last_part : Text → Text
-last_part t = cond (nat_lt (last_slash t 0 0) (length t)) (drop (last_slash t 0 0 + 1) t) t
+-- The place of the last slash in the rendered text of a path.
+abbrev pub last_slash : Names → Option ℕ
+last_slash [] = None
+last_slash (n ∷ p) = Some (length (render p))
 
 -- A slash comes before any byte of a name.
 abbrev pub key : ℕ → ℕ
@@ -66,7 +63,4 @@ key b = cond (b == 47) 0 b
 
 -- Texts by their keys, a beginning first.
 abbrev pub keyed : Text → Text → Ordering
-keyed [] [] = Equal
-keyed [] (b ∷ u) = Less
-keyed (a ∷ t) [] = Greater
-keyed (a ∷ t) (b ∷ u) = cond (nat_lt (key a) (key b)) Less (cond (nat_lt (key b) (key a)) Greater (keyed t u))
+keyed t u = slice_cmp nat_cmp (map key t) (map key u)

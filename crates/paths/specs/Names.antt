@@ -1,5 +1,6 @@
 -- A path is the list of its names, the innermost first: [] is "/", and n ∷ p is the child n of p.
 use Rattle.std.specs.Prelude.{ℕ, Bool, true, false, cond, not, ◌&&◌, List, [], ◌∷◌, ◌++◌, length, Some, None, Option, ◌==◌, nat_eq, nat_le, nat_lt}
+use Rattle.std.specs.List.{list_all}
 use Rattle.std.specs.Cmp.Lexicographic.{pointwise}
 
 -- A name is its bytes.
@@ -26,8 +27,7 @@ text (n ∷ p) = render (n ∷ p)
 
 -- No slash and no zero byte.
 abbrev pub plain : Text → Bool
-plain [] = true
-plain (b ∷ bs) = cond (b == 47) false (cond (b == 0) false (plain bs))
+plain = list_all (λ b. not (b == 47) && not (b == 0))
 
 -- Nothing, "." or "..".
 abbrev pub dots : Text → Bool

@@ -1,5 +1,6 @@
 -- The path that a text names below a working directory.
-use Rattle.std.specs.Prelude.{ℕ, ◌+◌, Bool, true, false, cond, List, [], ◌∷◌, ◌++◌, length, drop, Some, None, Ok, Err, Option, Result, ◌==◌, nat_le, nat_lt}
+use Rattle.std.specs.Prelude.{ℕ, ◌+◌, Bool, not, cond, List, [], ◌∷◌, ◌++◌, length, drop, Some, None, Ok, Err, Option, Result, ◌==◌, nat_le, nat_lt}
+use Rattle.std.specs.List.{list_any}
 use Rattle.paths.specs.Names.{Names, Text, dots, up, within}
 
 -- The parts of a text between its slashes, where cur is what was read of the first.
@@ -51,8 +52,7 @@ normalised cwd t = walked_from (below_root t) cwd t
 
 -- No zero byte stands in the text.
 abbrev pub zeroless : Text → Bool
-zeroless [] = true
-zeroless (b ∷ bs) = cond (b == 0) false (zeroless bs)
+zeroless t = not (list_any (λ b. b == 0) t)
 
 -- A path within the limits, or refusal 4.
 abbrev pub limited : Names → Result Names ℕ

@@ -1,6 +1,6 @@
 // Writing, cutting and comparing the bytes of a path, in a buffer of any size.
 ghost use Rattle.std.specs.Prelude.{◌≡◌, ◌+◌, ◌<◌, ◌≤◌, ◌++◌, length, drop};
-ghost use Rattle.paths.specs.Bytes.{grown, trimmed, last_slash, last_part, key, keyed};
+ghost use Rattle.paths.specs.Bytes.{grown, trimmed, key, keyed};
 
 use std::cmp::Ordering;
 
@@ -23,30 +23,6 @@ pub(crate) fn blank(text: &mut [u8], k: usize)
     text[k..].fill(0);
 }
 
-// The place of the last slash, or 0.
-pub(crate) fn last_slash(text: &[u8]) -> usize
-    ensures { result ≡ last_slash text.now 0 0 }
-{
-    let mut at = 0;
-    for (k, b) in text.iter().enumerate() {
-        if *b == b'/' {
-            at = k;
-        }
-    }
-    at
-}
-
-// What stands behind the last slash.
-pub(crate) fn last_part(text: &[u8]) -> &[u8]
-    ensures { result.now ≡ last_part text.now }
-{
-    let k = last_slash(text);
-    if k >= text.len() {
-        return text;
-    }
-    &text[k + 1..]
-}
-
 // Writes one text over the front of another.
 pub(crate) fn copy(to: &mut [u8], from: &[u8])
     requires { length from.now ≤ length to.old }
@@ -66,23 +42,7 @@ fn key_of(b: u8) -> u8
 pub(crate) fn order(t: &[u8], u: &[u8]) -> Ordering
     ensures { result ≡ keyed t.now u.now }
 {
-    let mut k = 0;
-    while k < t.len() {
-        if k >= u.len() {
-            return Ordering::Greater;
-        }
-        let a = key_of(t[k]);
-        let b = key_of(u[k]);
-        if a < b {
-            return Ordering::Less;
-        }
-        if b < a {
-            return Ordering::Greater;
-        }
-        k += 1;
-    }
-    if k < u.len() {
-        return Ordering::Less;
-    }
-    Ordering::Equal
+    t.iter()
+        .map(|b| key_of(*b))
+        .cmp(u.iter().map(|b| key_of(*b)))
 }

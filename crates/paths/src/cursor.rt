@@ -31,18 +31,12 @@ impl<'a> Cursor<'a> {
         ensures after { self.new.at ≡ behind_part (parts_from self.old.text.now self.old.at) self.old.at }
         ensures rest { parts_from self.old.text.now self.new.at ≡ other_parts (parts_from self.old.text.now self.old.at) }
     {
-        let text = self.text;
         let place = self.at;
-        if place > text.len() {
-            return None;
-        }
-        let mut end = place;
-        while end < text.len() && text[end] != b'/' {
-            end += 1;
-        }
-        self.at = end + 1;
+        let rest = self.text.get(place..)?;
+        let len = rest.iter().position(|b| *b == b'/').unwrap_or(rest.len());
+        self.at = place + len + 1;
         Some(Part {
-            name: &text[place..end],
+            name: &rest[..len],
             place,
         })
     }

@@ -17,12 +17,7 @@ type Wide = Spelled<136>;
 fn has_no_zero(text: &[u8]) -> bool
     ensures { result ≡ zeroless text.now }
 {
-    for b in text {
-        if *b == 0 {
-            return false;
-        }
-    }
-    true
+    !text.contains(&0)
 }
 
 // What follows the slash of an absolute text.

@@ -9,15 +9,7 @@ use crate::bytes::copy;
 fn is_plain(bytes: &[u8]) -> bool
     ensures { result ≡ plain bytes.now }
 {
-    for b in bytes {
-        if *b == b'/' {
-            return false;
-        }
-        if *b == 0 {
-            return false;
-        }
-    }
-    true
+    bytes.iter().all(|b| *b != b'/' && *b != 0)
 }
 
 fn is_dots(bytes: &[u8]) -> bool

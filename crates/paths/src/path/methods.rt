@@ -74,14 +74,10 @@ impl Path {
         ensures value { result ≡ starts_with self.now top.now }
         ensures laws { PartialOrder }
     {
-        let mut p = *self;
-        while p.depth() > 0 {
-            if p == *top {
-                return true;
-            }
-            p = p.parent();
-        }
-        p == *top
+        let Some(rest) = self.spelled.bytes().strip_prefix(top.spelled.bytes()) else {
+            return false;
+        };
+        rest.is_empty() || rest[0] == b'/'
     }
 
     // By names from "/" down, a beginning first.

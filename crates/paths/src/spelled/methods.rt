@@ -2,9 +2,10 @@
 ghost use Rattle.std.specs.Prelude.{◌≡◌, ℕ, ◌+◌, ◌<◌, ◌≤◌, true, min, [], ◌∷◌, length, IfSome};
 ghost use Rattle.std.specs.Option.{option_map};
 ghost use Rattle.paths.specs.Names.{named, good, up, last, render};
+ghost use Rattle.paths.specs.Bytes.{last_slash};
 
 use super::Spelled;
-use crate::bytes::{blank, copy, extend, last_part, last_slash};
+use crate::bytes::{blank, copy, extend};
 
 impl<const N: usize> Spelled<N> {
     pub(crate) fn root() -> Self
@@ -48,15 +49,19 @@ impl<const N: usize> Spelled<N> {
         &text[..self.len]
     }
 
+    fn last_slash(&self) -> Option<usize>
+        ensures { result ≡ last_slash self.now }
+    {
+        self.bytes().iter().rposition(|b| *b == b'/')
+    }
+
     // The innermost name.
     pub(crate) fn last(&self) -> Option<&[u8]>
         ensures value { option_map (λ x. x.now) result ≡ last self.now }
         ensures named { IfSome result (λ x. (named x.now ≡ true) × (length x.now ≤ N)) }
     {
-        if self.depth == 0 {
-            return None;
-        }
-        Some(last_part(self.bytes()))
+        let k = self.last_slash()?;
+        Some(&self.bytes()[k + 1..])
     }
 
     pub(crate) fn push(&mut self, name: &[u8])
@@ -73,10 +78,9 @@ impl<const N: usize> Spelled<N> {
     pub(crate) fn pop(&mut self)
         ensures { self.new ≡ up self.old }
     {
-        if self.depth == 0 {
+        let Some(k) = self.last_slash() else {
             return;
-        }
-        let k = last_slash(self.bytes());
+        };
         blank(&mut self.text, k);
         self.len = k;
         self.depth -= 1;

@@ -1,31 +1,20 @@
-use Rattle.std.proofs.Common.{arith}
-use Rattle.std.proofs.lemmas.List.{at_drop_more, at_drop_all}
-use Rattle.std.proofs.lemmas.List.Edits.{between_more, length-between}
-use Rattle.std.proofs.lemmas.Bool.Decides.{nat_tests}
-use Rattle.std.specs.List.{between}
+use Rattle.std.proofs.Common.{◌+◌, sym, refl, ap, ◌∙◌, rules}
+use Rattle.std.proofs.lemmas.Iterator.{YieldsList-from_slice}
+use Rattle.std.proofs.lemmas.Iterator.Search.{position_from_yields_List}
+use Rattle.std.proofs.lemmas.List.{take_rest}
+use borrow.Author.Tests.{tests}
+use Rattle.paths.specs.Texts.{first_part, behind_part, other_parts}
+use Rattle.paths.proofs.Parts.{is_slash, part_at}
 use Rattle.paths.proofs.cursor.Cursor.next_part.Goals as goal
-use Rattle.paths.proofs.cursor.Cursor.next_part.Goals.{then-loop-end-test+else-text-end-ne47, else-loop-end-test}
-use Rattle.paths.specs.Texts.{parts}
-
-pub loop-end-preserved : goal.loop-end-preserved
-loop-end-preserved c =
-    let e = at_drop_more (parts (between c.args.self.now.at c.loop-end.end c.args.self.now.text.now)) c.args.self.now.text.now c.loop-end.end 0 c.loop-end-test.true in
-    let b = between_more c.args.self.now.text.now c.args.self.now.at c.loop-end.end 0 c.loop-end.invariant.0 c.loop-end-test.true in
-    let i = c.loop-end.invariant.2 in
-    (omega arith, omega arith, grind (arith, nat_tests))
 
 pub returns : goal.returns
 returns c =
-    let i = c.loop-end.invariant.2 in
-    let n = length-between c.args.self.now.text.now c.args.self.now.at c.loop-end.end c.loop-end.invariant.1 in
-    elim c.loop-end-test.branch [
-      | then-loop-end-test+else-text-end-ne47 w ↦
-          let t = w.loop-end-test.true in
-          let s = w.if-text-end-ne47.false in
-          let e = at_drop_more (parts (between c.args.self.now.at c.loop-end.end c.args.self.now.text.now)) c.args.self.now.text.now c.loop-end.end 0 t in
-          grind (arith, nat_tests)
-      | else-loop-end-test w ↦
-          let t = w.loop-end-test.false in
-          let e = at_drop_all (parts (between c.args.self.now.at c.loop-end.end c.args.self.now.text.now)) c.args.self.now.text.now c.loop-end.end t in
-          grind (arith, nat_tests)
-    ]
+    let r = position_from_yields_List is_slash _ _ c.position.result c.position.ensures.ran (YieldsList-from_slice c.in_ok-rest.rest.now (cc)) (λ x b q k. search (rules, tests)) in
+    let l = c.in_ok-rest.ensures.lookup.0 in
+    let p = part_at c.args.self.now.text.now c.in_ok-rest.rest.now c.args.self.now.at c.unwrap_or-len.result c.position.result l.0 (l.2 ∙ take_rest c.args.self.now.text.now c.args.self.now.at) r c.unwrap_or-len.ensures in
+    record {
+      same = refl;
+      value = sym (ap (λ x. first_part x c.args.self.now.at) p.0);
+      after = sym (ap (λ x. behind_part x c.args.self.now.at) p.0 ∙ ap (λ k. c.args.self.now.at + k + 1) p.1);
+      rest = sym (ap other_parts p.0);
+    }
