@@ -1,5 +1,5 @@
 -- What the first part of a text says of its place and its length.
-use Rattle.std.proofs.Common.{◌≡◌, ℕ, ◌+◌, ◌≤◌, Bool, not, cond, eqb, leb, ltb, List, [], ◌∷◌, ◌++◌, length, take, drop, Some, None, Option, sym, ap, ◌∙◌, inl, inr, arith}
+use Rattle.std.proofs.Common.{◌≡◌, ℕ, ◌+◌, ◌≤◌, Bool, not, cond, eqb, leb, ltb, List, [], ◌∷◌, ◌++◌, length, map, take, drop, refl, Some, None, Option, sym, ap, ◌∙◌, inl, inr, arith}
 use Rattle.std.proofs.lemmas.List.{append-nil, append_assoc, drop-drop, length-append, length-drop, length-take-le}
 use Rattle.std.proofs.lemmas.Bool.{cases_Bool, cond-true, cond-false, leb-true, leb-false, le-leb, lt-leb, ltb-false}
 use Rattle.std.proofs.lemmas.Bool.Decides.{nat_tests}
@@ -7,7 +7,7 @@ use Rattle.std.specs.List.{position_or_len}
 use Rattle.std.specs.Option.{unwrap_or}
 use Rattle.std.proofs.lemmas.List.Sums.{prefix_len-le-length}
 use Rattle.paths.specs.Names.{Text}
-use Rattle.paths.specs.Texts.{parts, parts_from, first_part, behind_part, other_parts}
+use Rattle.paths.specs.Texts.{parts, parts_from, placed_parts}
 
 abbrev pub is_slash : ℕ → Bool
 is_slash b = eqb b 47
@@ -21,52 +21,30 @@ parts_first (b ∷ t) cur =
     let c = cases_Bool (eqb b 47) in
     grind (arith, nat_tests, append_assoc)
 
-part_split : (ps : List Text) (at k : ℕ) (n : Text) → Some (n, k) ≡ first_part ps at → (ps ≡ n ∷ other_parts ps) × (behind_part ps at ≡ at + length n + 1)
-part_split [] at k n e = absurd (let z : ◌≡◌ {A = ℕ} 0 1 = cc in omega arith)
-part_split (m ∷ ms) at k n e =
-    let p : ◌≡◌ {A = Text × ℕ} (n, k) (m, at) = cc in
-    let q : m ≡ n = sym (ap (λ x. x.0) p) in
-    (ap (λ x. x ∷ ms) q, ap (λ x. at + length x + 1) q)
+-- the bytes of the parts, with a slash behind each
+abbrev pub spread : List Text → ℕ
+spread [] = 0
+spread (n ∷ ns) = length n + 1 + spread ns
 
-part_short : (t cur n : Text) (ns : List Text) → parts cur t ≡ n ∷ ns → length n ≤ length cur + length t
-part_short [] cur n ns e = let q : cur ≡ n = cc in let l = ap length q in omega arith
-part_short (b ∷ t) cur n ns e =
-    elim (cases_Bool (eqb b 47)) [
-      | inl h ↦
-          let f = sym (cond-true (eqb b 47) (cur ∷ parts [] t) (parts (cur ++ b ∷ []) t) h) ∙ e in
-          let q : cur ≡ n = cc in
-          let l = ap length q in
-          omega arith
-      | inr h ↦
-          let f = sym (cond-false (eqb b 47) (cur ∷ parts [] t) (parts (cur ++ b ∷ []) t) h) ∙ e in
-          let i = part_short t (cur ++ b ∷ []) n ns f in
-          let l = length-append cur (b ∷ []) in
-          omega arith
-    ]
+pub spread_parts : (t cur : Text) → spread (parts cur t) ≡ length cur + length t + 1
+spread_parts [] cur = omega arith
+spread_parts (b ∷ t) cur =
+    let i = spread_parts t [] in
+    let j = spread_parts t (cur ++ b ∷ []) in
+    let l = length-append cur (b ∷ []) in
+    let c = cases_Bool (eqb b 47) in
+    grind (arith, nat_tests)
 
--- a part that begins at a place ends within the text
-part_within : (t : Text) (at : ℕ) (n : Text) (ns : List Text) → parts_from t at ≡ n ∷ ns → at + length n ≤ length t
-part_within t at n ns e =
-    elim (cases_Bool (leb at (length t))) [
-      | inl h ↦
-          let f = sym (cond-true (leb at (length t)) (parts [] (drop at t)) [] h) ∙ e in
-          let i = part_short (drop at t) [] n ns f in
-          let l = length-drop at t in
-          let w = leb-true at (length t) h in
-          omega arith
-      | inr h ↦
-          let f = sym (cond-false (leb at (length t)) (parts [] (drop at t)) [] h) ∙ e in
-          absurd (let z : ◌≡◌ {A = ℕ} 0 1 = cc in omega arith)
-    ]
+unplaced : (ns : List Text) (at : ℕ) → map (λ (x : Text × ℕ). x.0) (placed_parts ns at) ≡ ns
+unplaced [] at = refl
+unplaced (n ∷ ns) at = ap (λ x. n ∷ x) (unplaced ns (at + length n + 1))
 
--- the part that a cursor gives, the place that it moves on to, and what is left there
-pub part_next : (u t : Text) (at k on : ℕ) (n : Text) → u ≡ t → Some (n, k) ≡ first_part (parts_from u at) at → on ≡ behind_part (parts_from u at) at → parts_from u on ≡ other_parts (parts_from u at) →
-    (parts_from t at ≡ n ∷ parts_from t on) × (on ≡ at + length n + 1) × (at + length n ≤ length t)
-part_next u t at k on n e f g h =
-    let s = part_split (parts_from u at) at k n f in
-    let a : parts_from u at ≡ n ∷ parts_from u on = s.0 ∙ ap (λ x. n ∷ x) (sym h) in
-    let b : parts_from t at ≡ n ∷ parts_from t on = sym (ap (λ x. parts_from x at) e) ∙ (a ∙ ap (λ x. n ∷ parts_from x on) e) in
-    (b, g ∙ s.1, part_within t at n (parts_from t on) b)
+-- the part that a cursor gives, and those that are left
+pub part_next : (ns ms : List Text) (at on : ℕ) (x : Text × ℕ) → placed_parts ns at ≡ x ∷ placed_parts ms on → ns ≡ x.0 ∷ ms
+part_next ns ms at on x e = sym (unplaced ns at) ∙ (ap (map (λ (y : Text × ℕ). y.0)) e ∙ ap (λ y. x.0 ∷ y) (unplaced ms on))
+
+pub no_part : (ns : List Text) (at : ℕ) → placed_parts ns at ≡ [] → ns ≡ []
+no_part ns at e = sym (unplaced ns at) ∙ ap (map (λ (y : Text × ℕ). y.0)) e
 
 found : (t : Text) (r : Option ℕ) → r ≡ cond (ltb (position_or_len is_slash t) (length t)) (Some (position_or_len is_slash t)) None → unwrap_or r (length t) ≡ position_or_len is_slash t
 found t r e =

@@ -27,6 +27,11 @@ abbrev pub other_parts : List Text → List Text
 other_parts [] = []
 other_parts (n ∷ ns) = ns
 
+-- The parts with their places, where the first begins at a place.
+abbrev pub placed_parts : List Text → ℕ → List (Text × ℕ)
+placed_parts [] at = []
+placed_parts (n ∷ ns) at = (n, at) ∷ placed_parts ns (at + length n + 1)
+
 -- One part of a text: nothing and "." vanish, ".." goes up.
 abbrev pub walk : Names → Text → Names
 walk p n = cond (dots n) (cond (length n == 2) (up p) p) (n ∷ p)

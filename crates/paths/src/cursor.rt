@@ -1,7 +1,8 @@
 // A walk over the parts of a text between its slashes.
 ghost use Rattle.std.specs.Prelude.{◌≡◌, ℕ};
 ghost use Rattle.std.specs.Option.{option_map};
-ghost use Rattle.paths.specs.Texts.{parts_from, first_part, behind_part, other_parts};
+ghost use Rattle.paths.specs.Texts.{parts_from, first_part, behind_part, other_parts, placed_parts};
+ghost use Rattle.std.specs.Iterator.{YieldsFirstBy, item_count};
 
 #[derive(Drop)]
 pub struct Cursor<'a> {
@@ -39,5 +40,18 @@ impl<'a> Cursor<'a> {
             name: &rest[..len],
             place,
         })
+    }
+}
+
+// The parts in turn.
+impl<'a> Iterator for Cursor<'a> {
+    type Item = Part<'a>;
+
+    ghost next_gives = { YieldsFirstBy (λ x. (x.name.now, x.place)) (λ c. placed_parts (parts_from c.text.now c.at) c.at) };
+
+    ghost remaining = { item_count (λ c. placed_parts (parts_from c.text.now c.at) c.at) };
+
+    fn next(&mut self) -> Option<Part<'a>> {
+        self.next_part()
     }
 }

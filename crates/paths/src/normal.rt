@@ -50,8 +50,7 @@ fn walk(mut wide: Wide, text: &[u8]) -> Wide
     requires room { length (render wide) ≤ 64 }
     ensures { result ≡ walked wide (parts [] text.now) }
 {
-    let mut cursor = Cursor::over(text);
-    while let Some(part) = cursor.next_part() {
+    for part in Cursor::over(text) {
         step(&mut wide, part.name);
     }
     wide

@@ -1,36 +1,37 @@
-use Rattle.std.proofs.Common.{◌≡◌, true, [], ◌∷◌, sym, refl, ap, ◌∙◌, arith}
+use Rattle.std.proofs.Common.{◌≡◌, true, [], ◌∷◌, sym, refl, ap, ap₂, ◌∙◌, arith}
 use Rattle.std.proofs.lemmas.Bool.{and_parts}
 use Rattle.paths.specs.Names.{plain}
-use Rattle.paths.specs.Texts.{walked, parts_from}
+use Rattle.paths.specs.Texts.{walked, parts, parts_from}
 use Rattle.paths.proofs.Renders.{plains, parts_plain, left_start}
-use Rattle.paths.proofs.Parts.{part_next}
+use Rattle.paths.proofs.Parts.{spread, spread_parts, part_next, no_part}
 use Rattle.paths.proofs.normal.walk.Goals as goal
 
 pub loop-part-init : goal.loop-part-init
 loop-part-init c =
-    let a = c.over-cursor.ensures.at in
-    let e = ap (parts_from c.args.text.now) a ∙ left_start c.args.text.now in
-    (ap (walked c.args.wide) e, ap plains e ∙ parts_plain c.args.text.now [] c.requires.zeroless refl, omega (arith, c.requires.room), c.over-cursor.ensures.text)
+    let t : c.into_iter-part-iterator.result.text.now ≡ c.args.text.now = cc in
+    let a : c.into_iter-part-iterator.result.at ≡ 0 = cc in
+    let e = ap₂ parts_from t a ∙ left_start c.args.text.now in
+    let s = ap spread e ∙ spread_parts c.args.text.now [] in
+    (ap (walked c.args.wide) e, ap plains e ∙ parts_plain c.args.text.now [] c.requires.zeroless refl, omega (arith, s, c.requires.room, c.requires.short))
 
 pub step-requires : goal.step-requires
 step-requires c =
-    let f = c.in-Some.ensures in
-    let p = part_next c.loop-part.cursor.text.now c.args.text.now c.loop-part.cursor.at c.in-Some.part.place c.next_part.new.self.at c.in-Some.part.name.now c.loop-part.invariant.3 f.value f.after f.rest in
-    let s : plains (c.in-Some.part.name.now ∷ parts_from c.args.text.now c.next_part.new.self.at) ≡ true = sym (ap plains p.0) ∙ c.loop-part.invariant.1 in
-    record { plain = (and_parts (plain c.in-Some.part.name.now) _ s).0; room = omega (arith, p.1, p.2, c.loop-part.invariant.2, c.requires.short) }
-
-pub loop-part-smaller : goal.loop-part-smaller
-loop-part-smaller c =
-    let f = c.in-Some.ensures in
-    let p = part_next c.loop-part.cursor.text.now c.args.text.now c.loop-part.cursor.at c.in-Some.part.place c.next_part.new.self.at c.in-Some.part.name.now c.loop-part.invariant.3 f.value f.after f.rest in
-    omega (arith, p.1, p.2)
+    let p = part_next _ _ _ _ _ c.in-Some.ensures.steps in
+    let s = sym (ap plains p) ∙ c.loop-part.invariant.1 in
+    let w = ap spread p in
+    record { plain = (and_parts (plain c.in-Some.part.name.now) _ s).0; room = omega (arith, w, c.loop-part.invariant.2) }
 
 pub loop-part-preserved : goal.loop-part-preserved
 loop-part-preserved c =
-    let f = c.in-Some.ensures in
-    let p = part_next c.loop-part.cursor.text.now c.args.text.now c.loop-part.cursor.at c.in-Some.part.place c.next_part.new.self.at c.in-Some.part.name.now c.loop-part.invariant.3 f.value f.after f.rest in
-    let s : plains (c.in-Some.part.name.now ∷ parts_from c.args.text.now c.next_part.new.self.at) ≡ true = sym (ap plains p.0) ∙ c.loop-part.invariant.1 in
-    let w = c.step.ensures.after in
-    let a = ap (λ x. walked x (parts_from c.args.text.now c.next_part.new.self.at)) w in
-    let b = sym (ap (walked c.loop-part.wide) p.0) ∙ c.loop-part.invariant.0 in
-    (a ∙ b, (and_parts (plain c.in-Some.part.name.now) _ s).1, omega (arith, p.1, c.loop-part.invariant.2, c.step.ensures.len), f.same ∙ c.loop-part.invariant.3)
+    let p = part_next _ _ _ _ _ c.in-Some.ensures.steps in
+    let s = sym (ap plains p) ∙ c.loop-part.invariant.1 in
+    let w = ap spread p in
+    let b = sym (ap (walked c.loop-part.wide) p) ∙ c.loop-part.invariant.0 in
+    (ap (λ x. walked x (parts_from c.next.new.self.text.now c.next.new.self.at)) c.step.ensures.after ∙ b,
+     (and_parts (plain c.in-Some.part.name.now) _ s).1,
+     omega (arith, w, c.loop-part.invariant.2, c.step.ensures.len))
+
+pub returns : goal.returns
+returns c =
+    let p = no_part _ _ c.in-None.ensures.steps.0 in
+    sym (ap (walked c.loop-part.wide) p) ∙ c.loop-part.invariant.0
