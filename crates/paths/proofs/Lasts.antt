@@ -1,14 +1,11 @@
 -- The innermost name stands behind the last slash.
-use Rattle.std.proofs.Common.{◌≡◌, ◌≢◌, ℕ, suc, ◌+◌, ◌-◌, ◌<◌, ◌≤◌, true, false, not, ◌&&◌, eqb, ltb, [], ◌∷◌, ◌++◌, length, get_or, drop, Some, None, Option, sym, refl, ap, ◌∙◌, subst, inl, inr, arith}
+use Rattle.std.proofs.Common.{◌≡◌, ◌≢◌, ℕ, suc, ◌+◌, ◌-◌, ◌<◌, ◌≤◌, true, false, not, ◌&&◌, eqb, [], ◌∷◌, ◌++◌, length, get_or, drop, Some, None, Option, sym, refl, ap, ◌∙◌, subst, inl, inr, arith}
 use Rattle.std.proofs.lemmas.List.{append_assoc, drop_at, length-append, get_or-append_right}
 use Rattle.std.proofs.Math.Seq.{get_or-append_seam}
 use Rattle.std.proofs.lemmas.List.Folds.{list_all_at}
-use Rattle.std.proofs.lemmas.Bool.{and_parts, cases_lt, cond-true, cond-false, le-ltb}
-use Rattle.paths.specs.Names.{Name, Names, Text, render, plain, named, good, last, name_of}
+use Rattle.std.proofs.lemmas.Bool.{and_parts, cases_lt}
+use Rattle.paths.specs.Names.{Name, Names, Text, render, plain, named, good, last}
 use Rattle.paths.specs.Bytes.{last_slash}
-
-pub named_of : (n : Name) → named n ≡ true → length n ≤ 255 → name_of n ≡ Some n
-named_of n h l = cond-false (ltb 255 (length n)) _ _ (le-ltb 255 (length n) l) ∙ cond-true (named n) _ _ h
 
 -- what has a slash is no name
 slashed : (n : Name) (k : ℕ) → k < length n → get_or n k 0 ≡ 47 → plain n ≡ false

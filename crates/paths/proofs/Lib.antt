@@ -1,5 +1,5 @@
 pub mod Renders
-pub mod Walks
+pub mod Sames
 pub mod Spells
 pub mod Orders
 pub mod Parts

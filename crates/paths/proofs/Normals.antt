@@ -1,5 +1,5 @@
 -- A normal form has nothing but names, and its text reads back.
-use Rattle.std.proofs.Common.{◌≡◌, ◌<◌, true, false, not, eqb, ltb, leb, List, [], ◌∷◌, ◌++◌, length, reverse, Some, None, Option, sym, refl, ap, ◌∙◌, arith}
+use Rattle.std.proofs.Common.{◌≡◌, ℕ, ◌<◌, true, false, not, eqb, ltb, leb, List, [], ◌∷◌, ◌++◌, length, reverse, Some, None, Option, sym, refl, ap, ◌∙◌, arith}
 use Rattle.std.proofs.lemmas.List.{append_assoc, append-nil, length-reverse}
 use Rattle.std.proofs.lemmas.Bool.{and_parts, cases_Bool, cond-true, cond-false}
 use Rattle.std.proofs.lemmas.Bool.Decides.{nat_tests}
@@ -9,7 +9,6 @@ use Rattle.paths.specs.Texts.{parts, walk, walked, below_root, walked_from, norm
 use Rattle.paths.specs.Laws.{NormalForm, ReadsBack}
 use Rattle.paths.proofs.Renders.{plains, parts_plain}
 use Rattle.paths.proofs.Spells.{spell, render_spell, plains_out}
-use Rattle.paths.proofs.Walks.{below_zeroless}
 
 walk_good : (p : Names) (n : Text) → good p ≡ true → plain n ≡ true → good (walk p n) ≡ true
 walk_good [] n g h = let d = cases_Bool (dots n) in let t = cases_Bool (eqb (length n) 2) in grind arith
@@ -20,6 +19,12 @@ walked_good [] p g h = g
 walked_good (n ∷ ns) p g h =
     let b = and_parts (plain n) (plains ns) h in
     walked_good ns (walk p n) (walk_good p n g b.0) b.1
+
+below_zeroless : (text rest : Text) → Some rest ≡ below_root text → zeroless text ≡ true → zeroless rest ≡ true
+below_zeroless [] rest e h = absurd (let z : ◌≡◌ {A = ℕ} 0 1 = cc in omega arith)
+below_zeroless (b ∷ bs) rest e h =
+    let t = cases_Bool (eqb b 47) in
+    grind arith
 
 from_good : (r : Option Text) (cwd : Names) (t : Text) → r ≡ below_root t → good cwd ≡ true → zeroless t ≡ true → good (walked_from r cwd t) ≡ true
 from_good None cwd t e g z = walked_good (parts [] t) cwd g (parts_plain t [] z refl)

@@ -1,8 +1,6 @@
 -- The text of a path says its names, and the other way round.
-use Rattle.std.proofs.Common.{◌≡◌, ℕ, ◌+◌, ◌-◌, ◌<◌, ◌≤◌, Bool, true, false, ◌&&◌, eqb, leb, List, Some, [], ◌∷◌, ◌++◌, length, take, drop, set, replicate, sym, refl, ap, ◌∙◌, subst, arith}
-use Rattle.std.proofs.lemmas.List.{append-nil, append_assoc, take_at, drop_at, drop-drop, take_more_set, take_all, drop_all, drop-set-lt, drop-replicate, length-append, length-replicate}
-use Rattle.std.proofs.lemmas.Slice.{put_mid-paste}
-use borrow.Rule.Slice.PartMut.{put_mid}
+use Rattle.std.proofs.Common.{◌≡◌, ℕ, ◌+◌, ◌-◌, ◌<◌, ◌≤◌, Bool, true, false, ◌&&◌, eqb, leb, List, Some, [], ◌∷◌, ◌++◌, length, take, drop, replicate, sym, refl, ap, ◌∙◌, subst, arith}
+use Rattle.std.proofs.lemmas.List.{append-nil, append_assoc, take_at, drop_at, drop-drop, drop-replicate, length-append, length-replicate}
 use Rattle.std.proofs.lemmas.Bool.{and_parts, and_from, cases_Bool, cond-true, le-leb}
 use Rattle.paths.specs.Names.{Name, Text, Names, render, plain, named, good, up}
 use Rattle.paths.specs.Bytes.{byte, grow, parse, filled, padded, Holds, Sound, grown, trimmed, last_slash}
@@ -35,22 +33,6 @@ seal size text len depth p h =
     let cut : take len text ≡ render p = ap (take len) h.0 ∙ take_at (render p) _ len (sym h.1) in
     let back = ap parse cut ∙ parse_render p h.4 in
     (back, subst (λ x. Holds size text len depth x) (sym back) h)
-
--- after the slash and the name are written
-pub grown_is : (text : List ℕ) (len k : ℕ) (n ys : List ℕ) → len + length n < length text → ys ≡ n → length n ≡ k → put_mid (len + 1) k (set text len 47) ys ≡ grown text len n
-grown_is text len k n ys lt e f =
-    let a = put_mid-paste (len + 1) k (set text len 47) ys n (length n) e f refl in
-    let b = take_more_set text len 47 (omega arith) in
-    let d = drop-set-lt (len + 1 + length n) text len 47 (omega arith) in
-    let t = take_all (length n) n (omega arith) in
-    a ∙ (rw (b, d, t, append_assoc, append_assoc))
-
-pub trimmed_is : (text : List ℕ) (k n : ℕ) (ys : List ℕ) → k ≤ length text → n ≡ length text - k → ys ≡ replicate n 0 → put_mid k n text ys ≡ trimmed text k
-trimmed_is text k n ys le f e =
-    let a = put_mid-paste k n text ys (replicate n 0) n e refl (sym (length-replicate {A = ℕ} n 0)) in
-    let t = take_all {A = ℕ} n (replicate n 0) (omega (arith, length-replicate {A = ℕ} n 0)) in
-    let d = drop_all (k + n) text (omega arith) in
-    a ∙ rw (t, d, append-nil, f)
 
 pub grown_padded : (size : ℕ) (p : Names) (n : Name) → length (render p) + length n < size → grown (padded size p) (length (render p)) n ≡ padded size (n ∷ p)
 grown_padded size p n lt =
@@ -127,14 +109,6 @@ popped size text after len depth k p s v e f =
     let h = holds_parent size text len depth k p (held size text len depth p s v) f in
     seal size after k (depth - 1) (up p) (e ∙ h.0, h.1, h.2, h.3, h.4)
 
--- the last slash lies within the text, and a name behind it
-pub slash_within : (size : ℕ) (text : List ℕ) (len depth k : ℕ) (p : Names) → Sound size text len depth → parse (take len text) ≡ p → Some k ≡ last_slash p → (k ≤ size) × (0 < depth)
-slash_within size text len depth k [] s v f = absurd (cc)
-slash_within size text len depth k (n ∷ p) s v f =
-    let h = held size text len depth (n ∷ p) s v in
-    let w = h.3 in
-    ((holds_parent size text len depth k (n ∷ p) h f).2, omega arith)
-
 -- a text over the front of zeros
 pub filled_is : (size : ℕ) (t u : Text) → u ≡ t → t ++ drop (length t) (replicate size 0) ≡ filled size u
 filled_is size t u e = ap (λ x. t ++ x) (drop-replicate (length t) size 0) ∙ ap (filled size) (sym e)
@@ -147,13 +121,6 @@ copied size text after len depth p g l w d t e =
 pub depth_below : (p : Names) → length p ≤ length (render p)
 depth_below [] = omega arith
 depth_below (n ∷ p) = let i = depth_below p in let long = length-append (render p) (47 ∷ n) in omega arith
-
-pub copied_is : (to ys zs : List ℕ) (k : ℕ) → ys ≡ zs → length zs ≡ k → put_mid 0 k to ys ≡ zs ++ drop (length zs) to
-copied_is to ys zs k e f =
-    let a = put_mid-paste 0 k to ys zs (length zs) e f refl in
-    let t = take_all (length zs) zs (omega arith) in
-    let z : 0 + length zs ≡ length zs = omega arith in
-    a ∙ (ap (λ x. x ++ drop (0 + length zs) to) t ∙ ap (λ i. zs ++ drop i to) z)
 
 pub left_start : (text : List ℕ) → parts_from text 0 ≡ parts [] text
 left_start text = cond-true (leb 0 (length text)) _ _ (le-leb 0 (length text) (omega arith))

@@ -1,8 +1,7 @@
 // The path that a text names below a working directory.
 ghost use Rattle.std.specs.Prelude.{◌≡◌, ◌+◌, ◌<◌, ◌≤◌, true, [], length};
-ghost use Rattle.std.specs.Option.{option_map};
 ghost use Rattle.paths.specs.Names.{plain, render};
-ghost use Rattle.paths.specs.Texts.{zeroless, walk, walked, parts, below_root, normalised, limited, read};
+ghost use Rattle.paths.specs.Texts.{zeroless, walk, walked, parts, normalised, limited, read};
 ghost use Rattle.paths.specs.Laws.{NormalForm};
 ghost use Rattle.paths.specs.Model.{numbered, replied, placed};
 
@@ -18,16 +17,6 @@ fn has_no_zero(text: &[u8]) -> bool
     ensures { result ≡ zeroless text.now }
 {
     !text.contains(&0)
-}
-
-// What follows the slash of an absolute text.
-fn below_root(text: &[u8]) -> Option<&[u8]>
-    ensures { option_map (λ x. x.now) result ≡ below_root text.now }
-{
-    match text {
-        [b'/', rest @ ..] => Some(rest),
-        _ => None,
-    }
 }
 
 // One part of a text.
@@ -62,7 +51,7 @@ fn normal(cwd: &Path, text: &[u8]) -> Wide
     requires zeroless { zeroless text.now ≡ true }
     ensures { result ≡ normalised cwd.now text.now }
 {
-    match below_root(text) {
+    match text.strip_prefix(b"/") {
         Some(rest) => walk(Wide::root(), rest),
         None => walk(cwd.spelled.resized(), text),
     }

@@ -15,10 +15,7 @@ fn is_plain(bytes: &[u8]) -> bool
 fn is_dots(bytes: &[u8]) -> bool
     ensures { result ≡ dots bytes.now }
 {
-    match bytes {
-        [] | [b'.'] | [b'.', b'.'] => true,
-        _ => false,
-    }
+    matches!(bytes, [] | [b'.'] | [b'.', b'.'])
 }
 
 impl Name {

@@ -1,7 +1,7 @@
-use Rattle.std.proofs.Common.{◌≡◌, true, [], ◌∷◌, sym, refl, ap, ap₂, ◌∙◌, arith}
+use Rattle.std.proofs.Common.{◌≡◌, [], sym, refl, ap, ap₂, ◌∙◌, arith}
 use Rattle.std.proofs.lemmas.Bool.{and_parts}
 use Rattle.paths.specs.Names.{plain}
-use Rattle.paths.specs.Texts.{walked, parts, parts_from}
+use Rattle.paths.specs.Texts.{walked, parts_from}
 use Rattle.paths.proofs.Renders.{plains, parts_plain, left_start}
 use Rattle.paths.proofs.Parts.{spread, spread_parts, part_next, no_part}
 use Rattle.paths.proofs.normal.walk.Goals as goal
@@ -26,10 +26,11 @@ loop-part-preserved c =
     let p = part_next _ _ _ _ _ c.in-Some.ensures.steps in
     let s = sym (ap plains p) ∙ c.loop-part.invariant.1 in
     let w = ap spread p in
-    let b = sym (ap (walked c.loop-part.wide) p) ∙ c.loop-part.invariant.0 in
-    (ap (λ x. walked x (parts_from c.next.new.self.text.now c.next.new.self.at)) c.step.ensures.after ∙ b,
-     (and_parts (plain c.in-Some.part.name.now) _ s).1,
-     omega (arith, w, c.loop-part.invariant.2, c.step.ensures.len))
+    let b = sym (ap (walked c.loop-part.wide) p) ∙ c.loop-part.invariant.0 in (
+      ap (λ x. walked x (parts_from c.next.new.self.text.now c.next.new.self.at)) c.step.ensures.after ∙ b,
+      (and_parts (plain c.in-Some.part.name.now) _ s).1,
+      omega (arith, w, c.loop-part.invariant.2, c.step.ensures.len),
+    )
 
 pub returns : goal.returns
 returns c =

@@ -11,10 +11,3 @@ invariant_of-result c =
     let a = c.if-not-is_plain.ensures in
     let b = c.if-is_dots.ensures in
     (c.copy.ensures ∙ filled_is 255 c.args.bytes.now _ t, sym (ap length t), c.if-bytes-gt255.false, ap named t ∙ (grind (arith, nat_tests)))
-
-pub returns : goal.returns
-returns c =
-    let t : take (length c.args.bytes.now) c.copy.new.to ≡ c.args.bytes.now = ap (take (length c.args.bytes.now)) c.copy.ensures ∙ take_at c.args.bytes.now _ (length c.args.bytes.now) refl in
-    let a = c.if-not-is_plain.ensures in
-    let b = c.if-is_dots.ensures in
-    grind (arith, nat_tests)

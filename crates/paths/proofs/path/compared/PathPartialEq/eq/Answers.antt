@@ -2,7 +2,7 @@ use Rattle.std.proofs.Common.{ap₂, ◌∙◌}
 use Rattle.paths.specs.Names.{same_path}
 use Rattle.std.proofs.lemmas.Slice.Eq.{slice_eq-Decides}
 use Rattle.std.proofs.lemmas.Bool.Decides.{Decides-eqb}
-use Rattle.paths.proofs.Walks.{same_rendered}
+use Rattle.paths.proofs.Sames.{same_rendered}
 use Rattle.paths.proofs.path.compared.PathPartialEq.eq.Goals as goal
 
 pub returns : goal.returns
