@@ -5,16 +5,16 @@ use Rattle.std.proofs.Math.Seq.{get_or-append_seam}
 use Rattle.std.proofs.lemmas.List.Folds.{list_all_at}
 use Rattle.std.proofs.lemmas.Bool.{and_parts, cases_lt}
 use Rattle.paths.specs.Names.{Name, Names, Text, render, plain, named, good, last}
-use Rattle.paths.specs.Bytes.{last_slash}
+use Rattle.paths.specs.Bytes.{slash_at}
 
 -- what has a slash is no name
 slashed : (n : Name) (k : ℕ) → k < length n → get_or n k 0 ≡ 47 → plain n ≡ false
 slashed n k l e = list_all_at (λ b. not (eqb b 47) && not (eqb b 0)) n k 0 l (ap (λ b. not (eqb b 47) && not (eqb b 0)) e)
 
 -- the place of a slash behind which there is none
-pub last_slash_at : (p : Names) (i : ℕ) → good p ≡ true → i < length (render p) → get_or (render p) i 0 ≡ 47 → ((k : ℕ) → i + 1 ≤ k → k < length (render p) → get_or (render p) k 0 ≢ 47) → Some i ≡ last_slash p
-last_slash_at [] i g l e f = absurd (omega arith)
-last_slash_at (n ∷ p) i g l e f =
+pub slash_is_at : (p : Names) (i : ℕ) → good p ≡ true → i < length (render p) → get_or (render p) i 0 ≡ 47 → ((k : ℕ) → i + 1 ≤ k → k < length (render p) → get_or (render p) k 0 ≢ 47) → Some i ≡ slash_at p
+slash_is_at [] i g l e f = absurd (omega arith)
+slash_is_at (n ∷ p) i g l e f =
     let both = and_parts (named n) (good p) g in
     let mine = and_parts (plain n) _ both.0 in
     let long = length-append (render p) (47 ∷ n) in
@@ -30,14 +30,14 @@ last_slash_at (n ∷ p) i g l e f =
       ]
     ]
 
-pub last_slash_none : (p : Names) → ((k : ℕ) → k < length (render p) → get_or (render p) k 0 ≢ 47) → None ≡ last_slash p
-last_slash_none [] f = refl
-last_slash_none (n ∷ p) f =
+pub no_slash : (p : Names) → ((k : ℕ) → k < length (render p) → get_or (render p) k 0 ≢ 47) → None ≡ slash_at p
+no_slash [] f = refl
+no_slash (n ∷ p) f =
     let long = length-append (render p) (47 ∷ n) in
     absurd (f (length (render p)) (omega arith) (get_or-append_seam (render p) 47 n 0))
 
 -- the name that stands there
-pub last_is : (p : Names) (t : Text) (k : ℕ) → good p ≡ true → Some k ≡ last_slash p → t ≡ drop (k + 1) (render p) → (Some t ≡ last p) × (named t ≡ true) × (length t ≤ length (render p))
+pub last_is : (p : Names) (t : Text) (k : ℕ) → good p ≡ true → Some k ≡ slash_at p → t ≡ drop (k + 1) (render p) → (Some t ≡ last p) × (named t ≡ true) × (length t ≤ length (render p))
 last_is [] t k g f e = absurd (cc)
 last_is (n ∷ p) t k g f e =
     let both = and_parts (named n) (good p) g in
@@ -49,10 +49,10 @@ last_is (n ∷ p) t k g f e =
     let l = ap length f in
     (ap Some f, ap named f ∙ both.0, omega arith)
 
-pub last_slash_is : (p : Names) (t : Text) (r : Option ℕ) → good p ≡ true → t ≡ render p →
+pub slash_found : (p : Names) (t : Text) (r : Option ℕ) → good p ≡ true → t ≡ render p →
     (r ≡ None → (k : ℕ) → k < length t → get_or t k 0 ≢ 47) →
-    ((i : ℕ) → r ≡ Some i → (i < length t) × (get_or t i 0 ≡ 47) × ((k : ℕ) → i + 1 ≤ k → k < length t → get_or t k 0 ≢ 47)) → r ≡ last_slash p
-last_slash_is p t None g e f h = last_slash_none p (subst (λ x. (k : ℕ) → k < length x → get_or x k 0 ≢ 47) e (f refl))
-last_slash_is p t (Some i) g e f h =
+    ((i : ℕ) → r ≡ Some i → (i < length t) × (get_or t i 0 ≡ 47) × ((k : ℕ) → i + 1 ≤ k → k < length t → get_or t k 0 ≢ 47)) → r ≡ slash_at p
+slash_found p t None g e f h = no_slash p (subst (λ x. (k : ℕ) → k < length x → get_or x k 0 ≢ 47) e (f refl))
+slash_found p t (Some i) g e f h =
     let at : (i < length (render p)) × (get_or (render p) i 0 ≡ 47) × ((k : ℕ) → i + 1 ≤ k → k < length (render p) → get_or (render p) k 0 ≢ 47) = subst (λ x. (i < length x) × (get_or x i 0 ≡ 47) × ((k : ℕ) → i + 1 ≤ k → k < length x → get_or x k 0 ≢ 47)) e (h i refl) in
-    last_slash_at p i g at.0 at.1 at.2
+    slash_is_at p i g at.0 at.1 at.2

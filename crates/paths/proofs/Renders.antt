@@ -3,7 +3,7 @@ use Rattle.std.proofs.Common.{◌≡◌, ℕ, ◌+◌, ◌-◌, ◌<◌, ◌≤�
 use Rattle.std.proofs.lemmas.List.{append-nil, append_assoc, take_at, drop_at, drop-drop, drop-replicate, length-append, length-replicate}
 use Rattle.std.proofs.lemmas.Bool.{and_parts, and_from, cases_Bool, cond-true, le-leb}
 use Rattle.paths.specs.Names.{Name, Text, Names, render, plain, named, good, up}
-use Rattle.paths.specs.Bytes.{byte, grow, parse, filled, padded, Holds, Sound, grown, trimmed, last_slash}
+use Rattle.paths.specs.Bytes.{byte, grow, parse, filled, padded, Holds, Sound, grown, trimmed, slash_at}
 use Rattle.paths.specs.Texts.{zeroless, parts, parts_from}
 
 -- no part has a slash or a zero byte
@@ -78,7 +78,7 @@ parts_plain (b ∷ text) cur z h =
     let t = cases_Bool (eqb b 47) in
     grind (arith, and_from)
 
-pub holds_parent : (size : ℕ) (text : List ℕ) (len depth k : ℕ) (p : Names) → Holds size text len depth p → Some k ≡ last_slash p → Holds size (trimmed text k) k (depth - 1) (up p)
+pub holds_parent : (size : ℕ) (text : List ℕ) (len depth k : ℕ) (p : Names) → Holds size text len depth p → Some k ≡ slash_at p → Holds size (trimmed text k) k (depth - 1) (up p)
 holds_parent size text len depth k [] h e = absurd (cc)
 holds_parent size text len depth k (n ∷ p) h e =
     let both = and_parts (named n) (good p) h.4 in
@@ -103,7 +103,7 @@ pushed size text after len depth p n s v e m lt =
     let w = h.2 in
     seal size after (len + (1 + length n)) (depth + 1) (n ∷ p) (e ∙ h.0, omega arith, omega arith, h.3, h.4)
 
-pub popped : (size : ℕ) (text after : List ℕ) (len depth k : ℕ) (p : Names) → Sound size text len depth → parse (take len text) ≡ p → after ≡ trimmed text k → Some k ≡ last_slash p →
+pub popped : (size : ℕ) (text after : List ℕ) (len depth k : ℕ) (p : Names) → Sound size text len depth → parse (take len text) ≡ p → after ≡ trimmed text k → Some k ≡ slash_at p →
     (parse (take k after) ≡ up p) × Sound size after k (depth - 1)
 popped size text after len depth k p s v e f =
     let h = holds_parent size text len depth k p (held size text len depth p s v) f in

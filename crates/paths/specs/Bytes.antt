@@ -53,9 +53,9 @@ abbrev pub trimmed : Text → ℕ → Text
 trimmed bytes k = take k bytes ++ replicate (length bytes - k) 0
 
 -- The place of the last slash in the rendered text of a path.
-abbrev pub last_slash : Names → Option ℕ
-last_slash [] = None
-last_slash (n ∷ p) = Some (length (render p))
+abbrev pub slash_at : Names → Option ℕ
+slash_at [] = None
+slash_at (n ∷ p) = Some (length (render p))
 
 -- A slash comes before any byte of a name.
 abbrev pub key : ℕ → ℕ

@@ -1,7 +1,7 @@
 -- That paths are equal where their names are, and what the equality and the order of paths owe.
 use Rattle.std.specs.Prelude.{◌≡◌, true, reverse, refl}
 use Rattle.std.specs.Ordering.{eq_by_cmp, as_partial_cmp}
-use Rattle.std.specs.Cmp.{IsEquivalence, IsTotalOrder, IsPartialOrder, on_total, partial_order_from_agreeing_total}
+use Rattle.std.specs.Cmp.{IsPartialEquivalence, IsEquivalence, IsTotalOrder, IsPartialOrder, on_total, partial_equiv_from_equiv, partial_order_from_agreeing_total}
 use Rattle.std.specs.Cmp.Lexicographic.{pointwise_decides, bytes_decides, nat_list_eq_equiv, nat_list_cmp_total, lists_equiv, lists_total, lists_ties, texts_ties}
 use Rattle.std.proofs.Common.{Decides, sym, ap, ◌∙◌}
 use Rattle.std.proofs.lemmas.Bool.Decides.{same_from_decides}
@@ -30,6 +30,10 @@ same_turned p q =
 
 pub names_equiv : IsEquivalence same_path
 names_equiv = lists_equiv nat_list_eq_equiv
+
+-- what equality of two paths as values owes
+pub path_eq_laws : IsPartialEquivalence same_path
+path_eq_laws = partial_equiv_from_equiv names_equiv
 
 pub path_total : IsTotalOrder order_path
 path_total = on_total reverse (lists_total nat_list_cmp_total)

@@ -1,4 +1,5 @@
-// A name as a value: what may stand between two slashes, as long as a file system lets a name be.
+// A name as a value: what may stand between two slashes, as long as a file system lets a name be. Memory is fixed, so
+// its bytes lie in the value, with their length.
 pub mod compared;
 pub mod methods;
 

@@ -13,12 +13,6 @@ use crate::spelled::Spelled;
 // A path on its way to the normal form, which may pass the limits of a path for a while.
 type Wide = Spelled<136>;
 
-fn has_no_zero(text: &[u8]) -> bool
-    ensures { result ≡ zeroless text.now }
-{
-    !text.contains(&0)
-}
-
 // One part of a text.
 fn step(wide: &mut Wide, part: &[u8])
     requires plain { plain part.now ≡ true }
@@ -71,7 +65,7 @@ fn narrow(wide: &Wide, path: &mut Path) -> Result<(), Refusal>
     Ok(())
 }
 
-// Puts the path that the text names into the place that the caller lends.
+// Puts the path that the text names into the place that the caller lends, since no result holds a path.
 pub fn absolute(cwd: &Path, text: &[u8], path: &mut Path) -> Result<(), Refusal>
     ensures value { numbered result ≡ replied (read cwd.now text.now) }
     ensures after { path.new ≡ placed (read cwd.now text.now) path.old }
@@ -80,7 +74,7 @@ pub fn absolute(cwd: &Path, text: &[u8], path: &mut Path) -> Result<(), Refusal>
     if text.len() > 64 {
         return Err(Refusal::TextLong);
     }
-    if !has_no_zero(text) {
+    if text.contains(&0) {
         return Err(Refusal::ZeroByte);
     }
     narrow(&normal(cwd, text), path)

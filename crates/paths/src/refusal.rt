@@ -10,6 +10,7 @@ pub enum Refusal {
 }
 
 impl Refusal {
+    // The number by which callers outside the library know it.
     pub fn number(self) -> u8
         ensures { result ≡ number_of self }
     {

@@ -1,10 +1,9 @@
 // Equality and order of paths.
 ghost use Rattle.std.specs.Prelude.{◌≡◌, refl};
 ghost use Rattle.std.specs.Ordering.{as_partial_cmp};
-ghost use Rattle.std.specs.Cmp.{partial_equiv_from_equiv};
 ghost use Rattle.paths.specs.Names.{same_path};
 ghost use Rattle.paths.specs.Order.{order_path};
-ghost use Rattle.paths.specs.Equal.{names_equiv, path_total, path_ties, path_partial};
+ghost use Rattle.paths.specs.Equal.{names_equiv, path_eq_laws, path_total, path_ties, path_partial};
 
 use super::Path;
 use crate::bytes;
@@ -13,7 +12,7 @@ use std::cmp::Ordering;
 impl PartialEq for Path {
     ghost eq = { same_path };
 
-    ghost laws = { partial_equiv_from_equiv names_equiv };
+    ghost laws = { path_eq_laws };
 
     fn eq(&self, other: &Path) -> bool {
         self.spelled.bytes() == other.spelled.bytes()

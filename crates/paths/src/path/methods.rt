@@ -39,7 +39,7 @@ impl Path {
         self.spelled.bytes() // as it is kept
     }
 
-    // Puts the child of that name into the place that the caller lends.
+    // Puts the child of that name into the place that the caller lends, since no result holds a path.
     pub fn join(&self, name: &Name, child: &mut Path) -> Result<(), Refusal>
         ensures value { numbered result ≡ replied (limited (name.now ∷ self.now)) }
         ensures after { child.new ≡ placed (limited (name.now ∷ self.now)) child.old }

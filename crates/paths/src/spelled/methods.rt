@@ -2,7 +2,7 @@
 ghost use Rattle.std.specs.Prelude.{◌≡◌, ℕ, ◌+◌, ◌<◌, ◌≤◌, true, min, [], ◌∷◌, length, IfSome};
 ghost use Rattle.std.specs.Option.{option_map};
 ghost use Rattle.paths.specs.Names.{named, good, up, last, render};
-ghost use Rattle.paths.specs.Bytes.{last_slash};
+ghost use Rattle.paths.specs.Bytes.{slash_at};
 
 use super::Spelled;
 use crate::bytes::{blank, copy, extend};
@@ -50,7 +50,7 @@ impl<const N: usize> Spelled<N> {
     }
 
     fn last_slash(&self) -> Option<usize>
-        ensures { result ≡ last_slash self.now }
+        ensures { result ≡ slash_at self.now }
     {
         self.bytes().iter().rposition(|b| *b == b'/')
     }
