@@ -1,4 +1,4 @@
-// A guard's identity, and whether the record of that identity counts it among its aliases.
+// A guard's identity; it is attached while the record of that identity counts it among its aliases.
 use crate::identity::Identity;
 
 #[derive(Clone, Copy)]

@@ -1,9 +1,8 @@
 // A work that waits.
 ghost use Rattle.std.specs.Prelude.{◌≡◌};
-ghost use Rattle.paths.specs.Model.{names};
 ghost use Rattle.rules.specs.State.{guard_work, root_work, candidate_work};
 ghost use Rattle.rules.specs.Queueing.{work_path};
-ghost use Rattle.entries.specs.Model.{root as root_of, work as work_of};
+ghost use Rattle.rules.specs.Model.{work};
 
 use crate::root::Root;
 use paths::Path;
@@ -28,7 +27,7 @@ pub struct Work {
 
 impl Work {
     pub fn guard(root: &Root) -> Work
-        ensures { work_of result ≡ guard_work (root_of root.now) }
+        ensures { work result ≡ guard_work root.now }
     {
         Work {
             kind: WorkKind::Guard,
@@ -39,7 +38,7 @@ impl Work {
     }
 
     pub fn root(root: &Root) -> Work
-        ensures { work_of result ≡ root_work (root_of root.now) }
+        ensures { work result ≡ root_work root.now }
     {
         Work {
             kind: WorkKind::Root,
@@ -50,7 +49,7 @@ impl Work {
     }
 
     pub fn candidate(root: &Root, path: &Path, retries: u8) -> Work
-        ensures { work_of result ≡ candidate_work (root_of root.now) (names path.now) retries }
+        ensures { work result ≡ candidate_work root.now path.now retries }
     {
         Work {
             kind: WorkKind::Candidate,
@@ -62,7 +61,7 @@ impl Work {
 
     // The path at which it counts; a guard's is the parent of its root.
     pub fn counts_at(&self) -> Path
-        ensures { names result ≡ work_path (work_of self.now) }
+        ensures { result ≡ work_path (work self.now) }
     {
         match self.kind {
             WorkKind::Guard => self.root.path.parent(),

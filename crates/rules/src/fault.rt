@@ -1,16 +1,13 @@
 // A fault: what a step reports, and where.
-ghost use Rattle.std.specs.Prelude.{◌≡◌, Some};
-ghost use Rattle.paths.specs.Model.{names};
-ghost use Rattle.outside.specs.Model.{carries};
+ghost use Rattle.std.specs.Prelude.{◌≡◌};
+ghost use Rattle.rules.specs.Faults.{add_fault, remove_fault, resource_fault, path_fault, fault_path, resource};
 ghost use Rattle.rules.specs.declared.fault_kind.FaultKind.TheVariants.{PathScan};
-ghost use Rattle.rules.specs.declared.fault_kind.Layer.TheVariants.{Watcher};
-ghost use Rattle.rules.specs.Faults.{add_fault, remove_fault, resource_fault, fault_path, resource as resource_of};
-ghost use Rattle.entries.specs.Model.{fault as fault_of};
 
+use crate::fault_kind::{FaultKind, Layer};
 use outside::{BackendCause, Carried, Cause};
 use paths::Path;
-use rules::{FaultKind, Layer};
 
+// The layer that it comes from, its kind, its path or none, and the cause from below, whole.
 #[derive(Clone, Copy)]
 pub struct Fault {
     pub layer: Layer,
@@ -21,17 +18,14 @@ pub struct Fault {
 
 // The path that a fault names: a part of what the answer carried, or else the path requested.
 pub fn fault_path<'a>(carried: &'a Carried, requested: &'a Path) -> &'a Path
-    ensures { names result.now ≡ fault_path (carries carried.now) (names requested.now) }
+    ensures { result.now ≡ fault_path carried.now requested.now }
 {
-    match carried.path() {
-        Some(path) => path,
-        None => requested,
-    }
+    carried.path().unwrap_or(requested)
 }
 
 // The scarce resource that a backend's cause speaks of, if it does.
 pub fn resource(cause: BackendCause) -> Option<FaultKind>
-    ensures { result ≡ resource_of cause }
+    ensures { result ≡ resource cause }
 {
     match cause {
         BackendCause::MaxFilesWatch | BackendCause::Io(28) => Some(FaultKind::TooManyWatches),
@@ -43,7 +37,7 @@ pub fn resource(cause: BackendCause) -> Option<FaultKind>
 impl Fault {
     // At this path, by the watcher.
     fn at(kind: FaultKind, path: &Path, cause: Cause) -> Fault
-        ensures { fault_of result ≡ record { layer = Watcher; kind = kind; path = Some (names path.now); cause = cause } }
+        ensures { result ≡ path_fault kind path.now cause }
     {
         let mut place = Carried::nothing();
         place.put(path);
@@ -57,41 +51,37 @@ impl Fault {
 
     // A watch that was not done.
     pub fn add(path: &Path, cause: BackendCause, carried: &Carried) -> Fault
-        ensures { fault_of result ≡ add_fault (names path.now) cause (carries carried.now) }
+        ensures { result ≡ add_fault path.now cause carried.now }
     {
-        Fault::at(
-            FaultKind::PathAdd,
-            fault_path(carried, path),
-            Cause::Backend(cause),
-        )
+        Fault::at(FaultKind::PathAdd, fault_path(carried, path), cause.into())
     }
 
     // An unwatch that was not done.
     pub fn remove(path: &Path, cause: BackendCause, carried: &Carried) -> Fault
-        ensures { fault_of result ≡ remove_fault (names path.now) cause (carries carried.now) }
+        ensures { result ≡ remove_fault path.now cause carried.now }
     {
         Fault::at(
             FaultKind::PathRemove,
             fault_path(carried, path),
-            Cause::Backend(cause),
+            cause.into(),
         )
     }
 
     // A scarce resource is no path's: only the path that the answer carried is named.
     pub fn resource(kind: FaultKind, cause: BackendCause, carried: &Carried) -> Fault
-        ensures { fault_of result ≡ resource_fault kind cause (carries carried.now) }
+        ensures { result ≡ resource_fault kind cause carried.now }
     {
         Fault {
             layer: Layer::Watcher,
             kind,
             path: *carried,
-            cause: Cause::Backend(cause),
+            cause: cause.into(),
         }
     }
 
     // A scanner's cause at a path, or that the path changed meanwhile.
     pub fn scan(path: &Path, cause: Cause) -> Fault
-        ensures { fault_of result ≡ record { layer = Watcher; kind = PathScan; path = Some (names path.now); cause = cause } }
+        ensures { result ≡ path_fault PathScan path.now cause }
     {
         Fault::at(FaultKind::PathScan, path, cause)
     }
