@@ -8,6 +8,5 @@ pub mod making;
 pub mod marks;
 pub mod places;
 pub mod puts;
-pub mod tests;
 
 pub use inner::Inner;

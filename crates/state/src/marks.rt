@@ -1,6 +1,7 @@
 // The marks: the latch, whether it was reported, and what the opening fixed.
-ghost use Rattle.std.specs.Prelude.{◌≡◌, Bool};
-ghost use Rattle.paths.specs.Model.{names};
+#![tactic(auto, unfolding(crate::specs::Model::model, rules::specs::Adding::set_latch, rules::specs::Adding::set_reported, rules::specs::State::follows, rules::specs::State::kind_of, rules::specs::State::is_latched, rules::specs::State::is_reported, rules::specs::State::is_current))]
+
+ghost use Rattle.std.specs.Prelude.{◌≡◌};
 ghost use Rattle.rules.specs.Adding.{set_latch, set_reported};
 ghost use Rattle.rules.specs.State.{follows, kind_of, is_latched, is_reported, is_current};
 ghost use Rattle.state.specs.Model.{model};
@@ -42,7 +43,7 @@ impl Inner {
     }
 
     pub fn cwd(&self) -> &Path
-        ensures { names result.now ≡ (model self.now).cwd }
+        ensures { result.now ≡ (model self.now).cwd }
     {
         &self.cwd
     }
