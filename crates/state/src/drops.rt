@@ -1,6 +1,4 @@
 // What leaves the tables: that needs no place.
-#![tactic(auto, unfolding(crate::specs::Model::model, rules::specs::Edits::drop_failure, rules::specs::Edits::drop_skipped, rules::specs::Edits::drop_retry_root, rules::specs::Edits::lift_tombstones, rules::specs::Edits::drop_tombstone, rules::specs::Edits::drop_logical, rules::specs::Edits::drop_owner, rules::specs::Edits::drop_record, rules::specs::Edits::drop_guard, rules::specs::Edits::drop_guarded, rules::specs::Edits::loosen))]
-
 ghost use Rattle.std.specs.Prelude.{◌≡◌};
 ghost use Rattle.rules.specs.Edits.{drop_failure, drop_skipped, drop_retry_root, lift_tombstones, drop_tombstone, drop_logical, drop_owner, drop_record, drop_guard, drop_guarded, loosen};
 ghost use Rattle.state.specs.Model.{model};

@@ -1,6 +1,4 @@
 // What the state answers.
-#![tactic(auto, unfolding(crate::specs::Model::model, rules::specs::State::is_configured, rules::specs::State::has_tombstone, rules::specs::State::is_skipped, rules::specs::State::identity_at, rules::specs::State::is_logical, rules::specs::State::watch_path_of, rules::specs::State::is_recorded, rules::specs::State::is_watched, rules::specs::State::guard_at, rules::specs::State::guarded_by, rules::specs::State::guards_roots, rules::specs::State::is_owned, rules::specs::State::is_marked, rules::specs::State::has_aliases, rules::specs::State::is_latched, rules::specs::State::nothing_waits, rules::specs::State::has_work, rules::specs::State::needs_retry, rules::specs::State::concerns_any, rules::specs::Edits::failures_at))]
-
 ghost use Rattle.std.specs.Prelude.{◌≡◌};
 ghost use Rattle.std.specs.Option.{option_map};
 ghost use Rattle.rules.specs.State.{is_configured, has_tombstone, is_skipped, identity_at, is_logical, watch_path_of, is_recorded, is_watched, guard_at, guarded_by, guards_roots, is_owned, is_marked, has_aliases, nothing_waits, has_work, needs_retry, concerns, concerns_any};

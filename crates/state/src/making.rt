@@ -1,6 +1,4 @@
 // Having the memory of all tables, once, and opening them afresh.
-#![tactic(auto, unfolding(crate::specs::Model::model, rules::specs::Calls::fresh))]
-
 ghost use Rattle.std.specs.Prelude.{◌≡◌, false, [], IfOk};
 ghost use Rattle.rules.specs.declared.watcher_kind.WatcherKind.TheVariants.{Inotify};
 ghost use Rattle.rules.specs.Calls.{fresh};

@@ -1,6 +1,4 @@
 // The marks: the latch, whether it was reported, and what the opening fixed.
-#![tactic(auto, unfolding(crate::specs::Model::model, rules::specs::Adding::set_latch, rules::specs::Adding::set_reported, rules::specs::State::follows, rules::specs::State::kind_of, rules::specs::State::is_latched, rules::specs::State::is_reported, rules::specs::State::is_current))]
-
 ghost use Rattle.std.specs.Prelude.{◌≡◌};
 ghost use Rattle.rules.specs.Adding.{set_latch, set_reported};
 ghost use Rattle.rules.specs.State.{follows, kind_of, is_latched, is_reported, is_current};

@@ -1,6 +1,4 @@
 // Whether there is a place for what a watch brings.
-#![tactic(auto, unfolding(crate::specs::Model::model, rules::specs::Edits::room_for_path, rules::specs::Edits::room_for_record, rules::specs::Edits::room_for_guard))]
-
 ghost use Rattle.std.specs.Prelude.{◌≡◌};
 ghost use Rattle.rules.specs.Edits.{room_for_path, room_for_record, room_for_guard};
 ghost use Rattle.state.specs.Model.{model};

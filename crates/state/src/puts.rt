@@ -1,6 +1,4 @@
 // What enters the tables and the queue of works, or finds no place.
-#![tactic(auto, unfolding(crate::specs::Model::model, rules::specs::Edits::push_front, rules::specs::Edits::put_logical, rules::specs::Edits::put_owner, rules::specs::Edits::put_record, rules::specs::Edits::put_guard, rules::specs::Edits::put_guarded, rules::specs::Edits::put_skipped, rules::specs::Edits::put_tombstone, rules::specs::Edits::put_retry_root, rules::specs::Edits::count_failure))]
-
 ghost use Rattle.std.specs.Prelude.{◌≡◌};
 ghost use Rattle.rules.specs.Edits.{edited, push_front, put_logical, put_owner, put_record, put_guard, put_guarded, put_skipped, put_tombstone, put_retry_root, count_failure, once_more as one_more_time};
 ghost use Rattle.rules.specs.Model.{work as work_of};
