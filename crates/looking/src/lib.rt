@@ -6,7 +6,9 @@ mod descent;
 pub mod explicit_root;
 pub mod guard;
 pub mod permit;
+pub mod place;
 
 pub use explicit_root::{ExplicitRootState, classify_explicit_root};
-pub use guard::{GuardPlace, guard_place};
-pub use permit::{Permit, candidate_allowed};
+pub use guard::guard_place;
+pub use permit::candidate_allowed;
+pub use place::Place;
