@@ -1,5 +1,5 @@
 -- What a path settles, whatever stands above it.
-use Rattle.std.proofs.Common.{◌≡◌, ◌≢◌, Bool, true, cond, [], ◌∷◌, Ok, Err, sym, refl, ap, arith}
+use Rattle.std.proofs.Common.{◌≡◌, ◌≢◌, Bool, true, cond, [], ◌∷◌, Ok, Err, sym, ap}
 use Rattle.paths.specs.Names.{Names, same_path}
 use Rattle.outside.specs.declared.cause.ScanCause.TheVariants.{NotFound, Number}
 use Rattle.outside.specs.Answers.{directory, symlink, other, Classified, Verdict}

@@ -9,7 +9,7 @@ use outside::{ScanCause, Scanner};
 use paths::Path;
 
 // A path has at most 8 names, so the recursion is shallow.
-#[tactic(auto, using(std::proofs::lemmas::List::nil_from_length, crate::proofs::Steps::ascend_settled), unfolding(rules::specs::Looking::ascend))]
+#[tactic(auto, using(crate::proofs::Steps::ascend_settled), unfolding(rules::specs::Looking::ascend))]
 pub(crate) fn ascend<S: Scanner>(
     scanner: &S,
     path: &Path,

@@ -28,7 +28,7 @@ fn landed<S: Scanner>(
 }
 
 // Goes on as long as all are directories; a path has at most 8 names, so the recursion is shallow.
-#[tactic(auto, using(std::proofs::lemmas::List::nil_from_length), unfolding(rules::specs::Looking::descend))]
+#[tactic(auto, unfolding(rules::specs::Looking::descend))]
 pub(crate) fn descend<S: Scanner>(
     scanner: &S,
     path: &Path,

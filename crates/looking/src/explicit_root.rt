@@ -7,8 +7,8 @@ ghost use Rattle.looking.specs.Model.{root_state};
 use outside::{EntryKind, ScanCause, Scanner};
 use paths::Path;
 
-// Named as in the program that is carried over, so no Result.
-// The canonical path of a directory, and the path that is not found or that failed, stand beside.
+// Name and cases are those of the program that is carried over, so it is no Result.
+// The canonical path of a directory, and the path that is not found or that failed, stand beside: no enum holds a path.
 #[derive(Clone, Copy)]
 pub enum ExplicitRootState {
     Entry(EntryKind),
@@ -40,7 +40,7 @@ fn reached<S: Scanner>(
 }
 
 // From "/" down; a path has at most 8 names, so the recursion is shallow.
-#[tactic(auto, using(std::proofs::lemmas::List::nil_from_length), unfolding(rules::specs::Looking::not_followed))]
+#[tactic(auto, unfolding(rules::specs::Looking::not_followed))]
 fn not_followed<S: Scanner>(scanner: &S, path: &Path, place: &mut Path) -> ExplicitRootState
     ensures { root_state result (names place.new) ≡ not_followed (S.Scanner.classified scanner.now) (names path.now) }
 {

@@ -1,4 +1,6 @@
 // What is learnt from a scanner and a filterer: how a root stands, which directory guards it, which paths are allowed.
+// The four walks share the step to the parent alone: one walk for all would take what each does at "/", before that step and after it as closures over the lent place, and be no plainer.
+// A scanner and a follow mark go together in three functions, and each walk below sets its own mark: a struct for them would be no plainer.
 #![tactic(auto)]
 
 mod ascent;

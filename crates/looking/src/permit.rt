@@ -7,9 +7,9 @@ ghost use Rattle.looking.specs.Model.{permit_of};
 use outside::{FilterFault, Filterer};
 use paths::Path;
 
-// Each path from just below the root down to this one; the place then holds the path that a fault is of.
+// Each path from just below the root down to this one; the place then holds the path that a fault is of, since no result holds a path.
 // A path has at most 8 names, so the recursion is shallow.
-#[tactic(auto, using(std::proofs::lemmas::List::nil_from_length, crate::proofs::Steps::allowed_same), unfolding(rules::specs::Looking::candidate_allowed))]
+#[tactic(auto, using(crate::proofs::Steps::allowed_same), unfolding(rules::specs::Looking::candidate_allowed))]
 pub fn candidate_allowed<F: Filterer>(
     filterer: &F,
     root: &Path,

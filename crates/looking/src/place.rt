@@ -1,4 +1,4 @@
-// A place that the caller lends to the search for a guard.
+// A place that the caller lends to the search for a guard, since no result holds a path.
 ghost use Rattle.std.specs.Prelude.{◌≡◌, Ok, true, false};
 ghost use Rattle.paths.specs.Model.{names};
 ghost use Rattle.rules.specs.Looking.{nowhere, ascend_by};
@@ -29,7 +29,9 @@ pub(crate) fn visit<S: Scanner>(
             place.path = *path;
             Ok(true)
         }
-        Ok(EntryKind::NonFollowedSymlink | EntryKind::Other) | Err(ScanCause::NotFound) => Ok(false),
+        Ok(EntryKind::NonFollowedSymlink | EntryKind::Other) | Err(ScanCause::NotFound) => Ok(
+            false,
+        ),
         Err(cause) => {
             place.path = *path;
             Err(cause)
