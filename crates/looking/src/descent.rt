@@ -10,7 +10,7 @@ use outside::{ScanCause, Scanner};
 use paths::Path;
 use std::ops::ControlFlow;
 
-// One directory more, or the walk ends with what was found before.
+// One directory more, which the place then holds, or the walk ends with what was found before.
 fn landed<S: Scanner>(
     scanner: &S,
     before: bool,

@@ -1,6 +1,8 @@
 // What is learnt from a scanner and a filterer: how a root stands, which directory guards it, which paths are allowed.
-// The four walks share the step to the parent alone: one walk for all would take what each does at "/", before that step and after it as closures over the lent place, and be no plainer.
-// A scanner and a follow mark go together in three functions, and each walk below sets its own mark: a struct for them would be no plainer.
+// The four walks share the step to the parent alone: one walk for all would take as closures over the lent place
+// what each does at "/", before that step and after it, and be no plainer.
+// Four functions take a scanner with a follow mark, but each walk sets its own mark: a struct of both would be made
+// anew in each, and be no plainer.
 #![tactic(auto)]
 
 mod ascent;

@@ -29,9 +29,7 @@ pub(crate) fn visit<S: Scanner>(
             place.path = *path;
             Ok(true)
         }
-        Ok(EntryKind::NonFollowedSymlink | EntryKind::Other) | Err(ScanCause::NotFound) => Ok(
-            false,
-        ),
+        Ok(_) | Err(ScanCause::NotFound) => Ok(false),
         Err(cause) => {
             place.path = *path;
             Err(cause)
