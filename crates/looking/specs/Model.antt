@@ -3,7 +3,6 @@ use Rattle.std.specs.Prelude.{Bool, true, false, Ok, Err, Result}
 use Rattle.std.specs.declared.ops.ControlFlow.{ControlFlow}
 use Rattle.std.specs.declared.ops.ControlFlow.TheVariants.{Continue, Break}
 use Rattle.paths.specs.Names.{Names}
-use Rattle.paths.specs.Model.{names}
 use Rattle.outside.specs.declared.cause.ScanCause.{ScanCause}
 use Rattle.outside.specs.declared.cause.FilterFault.{FilterFault}
 use Rattle.outside.specs.declared.entry.EntryKind.TheVariants.{Directory, NonFollowedSymlink, Other}
@@ -24,13 +23,13 @@ root_state (Failed c) p = failing p c
 
 -- A guard with its path and canonical path, or a cause with its path.
 abbrev pub place_of : Result Bool ScanCause → PlaceValue → Place
-place_of (Ok true) p = found (names p.path) (names p.canonical)
+place_of (Ok true) p = found p.path p.canonical
 place_of (Ok false) p = nowhere
-place_of (Err e) p = blocked (names p.path) e
+place_of (Err e) p = blocked p.path e
 
 -- A walk down with the canonical path of its last directory, or what it ended with.
 abbrev pub descent_of : ControlFlow (Result Bool ScanCause) (Unit {0}) → PlaceValue → Descent
-descent_of (Continue x) p = reaches (names p.canonical)
+descent_of (Continue x) p = reaches p.canonical
 descent_of (Break x) p = ended (place_of x p)
 
 -- A permit with the path that a fault is of.

@@ -1,7 +1,6 @@
 // The walk from "/" down to a path, without following.
 ghost use Rattle.std.specs.Prelude.{◌≡◌, false, Ok};
 ghost use Rattle.std.specs.ControlFlow.{ForContinue};
-ghost use Rattle.paths.specs.Model.{names};
 ghost use Rattle.rules.specs.Looking.{landed as landed_at, descend as descend_to};
 ghost use Rattle.looking.specs.Model.{place_of, descent_of};
 
@@ -17,8 +16,8 @@ fn landed<S: Scanner>(
     path: &Path,
     place: &mut Place,
 ) -> ControlFlow<Result<bool, ScanCause>>
-    ensures value { descent_of result place.new ≡ landed_at (names path.now) (place_of (Ok before) place.old) (S.Scanner.classified scanner.now (names path.now) false) }
-    ensures there { ForContinue result (λ _. names place.new.path ≡ names path.now) }
+    ensures value { descent_of result place.new ≡ landed_at path.now (place_of (Ok before) place.old) (S.Scanner.classified scanner.now path.now false) }
+    ensures there { ForContinue result (λ _. place.new.path ≡ path.now) }
 {
     match visit(scanner, false, path, place) {
         Ok(true) => ControlFlow::Continue(()),
@@ -34,8 +33,8 @@ pub(crate) fn descend<S: Scanner>(
     path: &Path,
     place: &mut Place,
 ) -> ControlFlow<Result<bool, ScanCause>>
-    ensures value { descent_of result place.new ≡ descend_to (S.Scanner.classified scanner.now) (names path.now) }
-    ensures there { ForContinue result (λ _. names place.new.path ≡ names path.now) }
+    ensures value { descent_of result place.new ≡ descend_to (S.Scanner.classified scanner.now) path.now }
+    ensures there { ForContinue result (λ _. place.new.path ≡ path.now) }
 {
     if path.depth() == 0 {
         return landed(scanner, false, path, place);

@@ -1,6 +1,5 @@
 // How a configured root stands.
 ghost use Rattle.std.specs.Prelude.{◌≡◌, false};
-ghost use Rattle.paths.specs.Model.{names};
 ghost use Rattle.rules.specs.Looking.{reached as reached_as, not_followed, classify_explicit_root};
 ghost use Rattle.looking.specs.Model.{root_state};
 
@@ -24,7 +23,7 @@ fn reached<S: Scanner>(
     path: &Path,
     place: &mut Path,
 ) -> ExplicitRootState
-    ensures { root_state result (names place.new) ≡ reached_as (names path.now) (S.Scanner.classified scanner.now (names path.now) follow) }
+    ensures { root_state result place.new ≡ reached_as path.now (S.Scanner.classified scanner.now path.now follow) }
 {
     match scanner.classify(path, follow, place) {
         Ok(EntryKind::NonFollowedSymlink) => ExplicitRootState::Unsafe,
@@ -42,7 +41,7 @@ fn reached<S: Scanner>(
 // From "/" down; a path has at most 8 names, so the recursion is shallow.
 #[tactic(auto, unfolding(rules::specs::Looking::not_followed))]
 fn not_followed<S: Scanner>(scanner: &S, path: &Path, place: &mut Path) -> ExplicitRootState
-    ensures { root_state result (names place.new) ≡ not_followed (S.Scanner.classified scanner.now) (names path.now) }
+    ensures { root_state result place.new ≡ not_followed (S.Scanner.classified scanner.now) path.now }
 {
     if path.depth() == 0 {
         return reached(scanner, false, path, place);
@@ -62,7 +61,7 @@ pub fn classify_explicit_root<S: Scanner>(
     path: &Path,
     place: &mut Path,
 ) -> ExplicitRootState
-    ensures { root_state result (names place.new) ≡ classify_explicit_root (S.Scanner.classified scanner.now) follow (names path.now) }
+    ensures { root_state result place.new ≡ classify_explicit_root (S.Scanner.classified scanner.now) follow path.now }
 {
     if follow {
         reached(scanner, true, path, place)

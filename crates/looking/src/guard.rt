@@ -1,6 +1,5 @@
 // The directory above a root that guards it.
 ghost use Rattle.std.specs.Prelude.{◌≡◌};
-ghost use Rattle.paths.specs.Model.{names};
 ghost use Rattle.rules.specs.Looking.{guard_place};
 ghost use Rattle.looking.specs.Model.{place_of};
 
@@ -20,7 +19,7 @@ pub fn guard_place<S: Scanner>(
     path: &Path,
     place: &mut Place,
 ) -> Result<bool, ScanCause>
-    ensures { place_of result place.new ≡ guard_place (S.Scanner.classified scanner.now) follow (names path.now) }
+    ensures { place_of result place.new ≡ guard_place (S.Scanner.classified scanner.now) follow path.now }
 {
     if path.depth() == 0 {
         return Ok(false);

@@ -1,6 +1,5 @@
 // Whether the filterer allows a path for a root.
 ghost use Rattle.std.specs.Prelude.{◌≡◌};
-ghost use Rattle.paths.specs.Model.{names};
 ghost use Rattle.rules.specs.Looking.{candidate_allowed};
 ghost use Rattle.looking.specs.Model.{permit_of};
 
@@ -16,7 +15,7 @@ pub fn candidate_allowed<F: Filterer>(
     path: &Path,
     place: &mut Path,
 ) -> Result<bool, FilterFault>
-    ensures { permit_of result (names place.new) ≡ candidate_allowed (F.Filterer.verdict filterer.now) (names root.now) (names path.now) }
+    ensures { permit_of result place.new ≡ candidate_allowed (F.Filterer.verdict filterer.now) root.now path.now }
 {
     if *path == *root {
         return Ok(true);

@@ -1,6 +1,5 @@
 // A place that the caller lends to the search for a guard, since no result holds a path.
 ghost use Rattle.std.specs.Prelude.{◌≡◌, Ok, true, false};
-ghost use Rattle.paths.specs.Model.{names};
 ghost use Rattle.rules.specs.Looking.{nowhere, ascend_by};
 ghost use Rattle.looking.specs.Model.{place_of};
 
@@ -21,7 +20,7 @@ pub(crate) fn visit<S: Scanner>(
     path: &Path,
     place: &mut Place,
 ) -> Result<bool, ScanCause>
-    ensures value { place_of result place.new ≡ ascend_by (names path.now) nowhere (S.Scanner.classified scanner.now (names path.now) follow) }
+    ensures value { place_of result place.new ≡ ascend_by path.now nowhere (S.Scanner.classified scanner.now path.now follow) }
     ensures kept { result ≡ Ok false → place_of (Ok true) place.new ≡ place_of (Ok true) place.old }
 {
     match scanner.classify(path, follow, &mut place.canonical) {
