@@ -1,8 +1,9 @@
 // A fault: what a step reports, and where.
 ghost use Rattle.std.specs.Prelude.{◌≡◌};
-ghost use Rattle.rules.specs.Faults.{add_fault, remove_fault, resource_fault, path_fault, fault_path, resource};
+ghost use Rattle.rules.specs.Faults.{add_fault, remove_fault, resource_fault, path_fault, resource};
 ghost use Rattle.rules.specs.declared.fault_kind.FaultKind.TheVariants.{PathScan};
 
+use crate::failure::Failure;
 use crate::fault_kind::{FaultKind, Layer};
 use outside::{BackendCause, Carried, Cause};
 use paths::Path;
@@ -14,13 +15,6 @@ pub struct Fault {
     pub kind: FaultKind,
     pub path: Carried,
     pub cause: Cause,
-}
-
-// The path that a fault names: a part of what the answer carried, or else the path requested.
-pub fn fault_path<'a>(carried: &'a Carried, requested: &'a Path) -> &'a Path
-    ensures { result.now ≡ fault_path carried.now requested.now }
-{
-    carried.path().unwrap_or(requested)
 }
 
 // The scarce resource that a backend's cause speaks of, if it does.
@@ -50,32 +44,28 @@ impl Fault {
     }
 
     // A watch that was not done.
-    pub fn add(path: &Path, cause: BackendCause, carried: &Carried) -> Fault
-        ensures { result ≡ add_fault path.now cause carried.now }
+    pub fn add(failure: &Failure) -> Fault
+        ensures { result ≡ add_fault failure.now.path failure.now.cause failure.now.carried }
     {
-        Fault::at(FaultKind::PathAdd, fault_path(carried, path), cause.into())
+        Fault::at(FaultKind::PathAdd, failure.at(), failure.cause.into())
     }
 
     // An unwatch that was not done.
-    pub fn remove(path: &Path, cause: BackendCause, carried: &Carried) -> Fault
-        ensures { result ≡ remove_fault path.now cause carried.now }
+    pub fn remove(failure: &Failure) -> Fault
+        ensures { result ≡ remove_fault failure.now.path failure.now.cause failure.now.carried }
     {
-        Fault::at(
-            FaultKind::PathRemove,
-            fault_path(carried, path),
-            cause.into(),
-        )
+        Fault::at(FaultKind::PathRemove, failure.at(), failure.cause.into())
     }
 
     // A scarce resource is no path's: only the path that the answer carried is named.
-    pub fn resource(kind: FaultKind, cause: BackendCause, carried: &Carried) -> Fault
-        ensures { result ≡ resource_fault kind cause carried.now }
+    pub fn resource(kind: FaultKind, failure: &Failure) -> Fault
+        ensures { result ≡ resource_fault kind failure.now.cause failure.now.carried }
     {
         Fault {
             layer: Layer::Watcher,
             kind,
-            path: *carried,
-            cause: cause.into(),
+            path: failure.carried,
+            cause: failure.cause.into(),
         }
     }
 

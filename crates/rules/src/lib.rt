@@ -3,6 +3,7 @@
 #![tactic(auto)]
 
 pub mod cards;
+pub mod failure;
 pub mod fault;
 pub mod fault_kind;
 pub mod guard;
@@ -19,6 +20,7 @@ pub mod watcher_kind;
 pub mod work;
 
 pub use cards::cards_hold;
+pub use failure::Failure;
 pub use fault::Fault;
 pub use fault_kind::{FaultKind, Layer};
 pub use guard::Guard;
