@@ -1,16 +1,15 @@
 -- What the progress of the code stands for, and what a method does by its definition.
-use Rattle.std.specs.Prelude.{◌≡◌, map, vec_items, Result}
+use Rattle.std.specs.Prelude.{◌≡◌, Result}
 use Rattle.outside.specs.Requests.{Request, Answer}
 use Rattle.tables.specs.declared.full.NoPlace.{NoPlace}
 use Rattle.rules.specs.Runs.{end, Ran}
 use Rattle.rules.specs.Acts.{Act, Progress, outcome}
-use Rattle.entries.specs.Model.{fault}
 use Rattle.state.specs.Model.{model}
 use Rattle.acting.specs.declared.progress.Progress.{Progress as ProgressValue}
 
 -- The state, the faults and the mark.
 abbrev pub reached : ProgressValue → Progress
-reached p = record { state = model p.inner; faults = map fault (vec_items p.faults.items); rebuild = p.rebuild }
+reached p = record { state = model p.inner; faults = p.faults; rebuild = p.rebuild }
 
 -- From n the act makes no request and ends with this reply at m.
 abbrev pub Ends : {A : Type 0} → Act A → Progress → Result A NoPlace → Progress → Type 0

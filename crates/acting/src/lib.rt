@@ -1,5 +1,5 @@
 // Acts that make no request: what a step does to the state, the faults that it writes, the rebuild that it asks.
-#![tactic(auto)]
+#![tactic(auto, unfolding(crate::proofs::Opened::opened))]
 
 pub mod adding;
 pub mod failing;

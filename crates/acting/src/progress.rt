@@ -1,5 +1,5 @@
 // How far a step has come: the state, the faults written so far, and whether a rebuild was asked.
-use entries::Fault;
+use rules::Fault;
 use state::Inner;
 use tables::Queue;
 

@@ -1,16 +1,16 @@
 -- What the values of the code stand for, with the paths that stand beside them.
+use Rattle.std.specs.Prelude.{Bool, true, false, Ok, Err, Result}
+use Rattle.std.specs.declared.ops.ControlFlow.{ControlFlow}
+use Rattle.std.specs.declared.ops.ControlFlow.TheVariants.{Continue, Break}
 use Rattle.paths.specs.Names.{Names}
+use Rattle.outside.specs.declared.cause.ScanCause.{ScanCause}
+use Rattle.outside.specs.declared.cause.FilterFault.{FilterFault}
 use Rattle.outside.specs.declared.entry.EntryKind.TheVariants.{Directory, NonFollowedSymlink, Other}
 use Rattle.outside.specs.Answers.{directory, symlink, other}
 use Rattle.rules.specs.Looking.{RootState, entry, missing, unsafe, failing, Place, nowhere, found, blocked, Descent, reaches, ended, Permit, allowed, refused, balked}
 use Rattle.looking.specs.declared.explicit_root.ExplicitRootState.{ExplicitRootState}
 use Rattle.looking.specs.declared.explicit_root.ExplicitRootState.TheVariants.{Entry, NotFound, Unsafe, Failed}
-use Rattle.looking.specs.declared.guard.GuardPlace.{GuardPlace}
-use Rattle.looking.specs.declared.guard.GuardPlace.TheVariants.{Nowhere, Found, Blocked}
-use Rattle.looking.specs.declared.descent.Descent.{Descent as DescentValue}
-use Rattle.looking.specs.declared.descent.Descent.TheVariants.{Reaches, Ended}
-use Rattle.looking.specs.declared.permit.Permit.{Permit as PermitValue}
-use Rattle.looking.specs.declared.permit.Permit.TheVariants.{Allowed, Refused, Balked}
+use Rattle.looking.specs.declared.place.Place.{Place as PlaceValue}
 
 -- A root's state with the canonical path of a directory, or the path that is missing or fails.
 abbrev pub root_state : ExplicitRootState → Names → RootState
@@ -22,18 +22,18 @@ root_state Unsafe p = unsafe
 root_state (Failed c) p = failing p c
 
 -- A guard with its path and canonical path, or a cause with its path.
-abbrev pub place_of : GuardPlace → Names → Names → Place
-place_of Nowhere p c = nowhere
-place_of Found p c = found p c
-place_of (Blocked e) p c = blocked p e
+abbrev pub place_of : Result Bool ScanCause → PlaceValue → Place
+place_of (Ok true) p = found p.path p.canonical
+place_of (Ok false) p = nowhere
+place_of (Err e) p = blocked p.path e
 
 -- A walk down with the canonical path of its last directory, or what it ended with.
-abbrev pub descent_of : DescentValue → Names → Names → Descent
-descent_of Reaches p c = reaches c
-descent_of (Ended x) p c = ended (place_of x p c)
+abbrev pub descent_of : ControlFlow (Result Bool ScanCause) (Unit {0}) → PlaceValue → Descent
+descent_of (Continue x) p = reaches p.canonical
+descent_of (Break x) p = ended (place_of x p)
 
 -- A permit with the path that a fault is of.
-abbrev pub permit_of : PermitValue → Names → Permit
-permit_of Allowed p = allowed
-permit_of Refused p = refused
-permit_of (Balked f) p = balked p f.0
+abbrev pub permit_of : Result Bool FilterFault → Names → Permit
+permit_of (Ok true) p = allowed
+permit_of (Ok false) p = refused
+permit_of (Err f) p = balked p f.0

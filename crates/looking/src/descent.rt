@@ -1,60 +1,44 @@
 // The walk from "/" down to a path, without following.
-ghost use Rattle.std.specs.Prelude.{◌≡◌, false};
-ghost use Rattle.paths.specs.Model.{names};
+ghost use Rattle.std.specs.Prelude.{◌≡◌, false, Ok};
+ghost use Rattle.std.specs.ControlFlow.{ForContinue};
 ghost use Rattle.rules.specs.Looking.{landed as landed_at, descend as descend_to};
 ghost use Rattle.looking.specs.Model.{place_of, descent_of};
 
-use crate::guard::GuardPlace;
-use outside::{EntryKind, ScanCause, Scanner};
+use crate::place::{Place, visit};
+use outside::{ScanCause, Scanner};
 use paths::Path;
+use std::ops::ControlFlow;
 
-// All are directories, and the last one's canonical path stands beside; or the walk ended before.
-#[derive(Clone, Copy)]
-pub(crate) enum Descent {
-    Reaches,
-    Ended(GuardPlace),
-}
-
-// One directory more, or the walk ends with what was found before.
+// One directory more, which the place then holds, or the walk ends with what was found before.
 fn landed<S: Scanner>(
     scanner: &S,
-    before: GuardPlace,
+    before: bool,
     path: &Path,
-    place: &mut Path,
-    canonical: &mut Path,
-) -> Descent
-    ensures { descent_of result (names place.new) (names canonical.new) ≡ landed_at (names path.now) (place_of before (names place.old) (names canonical.old)) (S.Scanner.classified scanner.now (names path.now) false) }
+    place: &mut Place,
+) -> ControlFlow<Result<bool, ScanCause>>
+    ensures value { descent_of result place.new ≡ landed_at path.now (place_of (Ok before) place.old) (S.Scanner.classified scanner.now path.now false) }
+    ensures there { ForContinue result (λ _. place.new.path ≡ path.now) }
 {
-    match scanner.classify(path, false, canonical) {
-        Ok(EntryKind::Directory) => Descent::Reaches,
-        Ok(EntryKind::NonFollowedSymlink) => Descent::Ended(before),
-        Ok(EntryKind::Other) => Descent::Ended(before),
-        Err(ScanCause::NotFound) => Descent::Ended(before),
-        Err(ScanCause::Number(number)) => {
-            *place = *path;
-            Descent::Ended(GuardPlace::Blocked(ScanCause::Number(number)))
-        }
+    match visit(scanner, false, path, place) {
+        Ok(true) => ControlFlow::Continue(()),
+        Ok(false) => ControlFlow::Break(Ok(before)),
+        Err(cause) => ControlFlow::Break(Err(cause)),
     }
 }
 
-// A path has at most 8 names, so the recursion is shallow.
+// Goes on as long as all are directories; a path has at most 8 names, so the recursion is shallow.
+#[tactic(auto, unfolding(rules::specs::Looking::descend))]
 pub(crate) fn descend<S: Scanner>(
     scanner: &S,
     path: &Path,
-    place: &mut Path,
-    canonical: &mut Path,
-) -> Descent
-    ensures { descent_of result (names place.new) (names canonical.new) ≡ descend_to (S.Scanner.classified scanner.now) (names path.now) }
+    place: &mut Place,
+) -> ControlFlow<Result<bool, ScanCause>>
+    ensures value { descent_of result place.new ≡ descend_to (S.Scanner.classified scanner.now) path.now }
+    ensures there { ForContinue result (λ _. place.new.path ≡ path.now) }
 {
     if path.depth() == 0 {
-        return landed(scanner, GuardPlace::Nowhere, path, place, canonical);
+        return landed(scanner, false, path, place);
     }
-    let parent = path.parent();
-    match descend(scanner, &parent, place, canonical) {
-        Descent::Reaches => {
-            *place = parent;
-            landed(scanner, GuardPlace::Found, path, place, canonical)
-        }
-        Descent::Ended(found) => Descent::Ended(found),
-    }
+    descend(scanner, &path.parent(), place)?;
+    landed(scanner, true, path, place)
 }

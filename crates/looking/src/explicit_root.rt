@@ -1,13 +1,13 @@
 // How a configured root stands.
-ghost use Rattle.std.specs.Prelude.{◌≡◌, true, false};
-ghost use Rattle.paths.specs.Model.{names};
-ghost use Rattle.rules.specs.Looking.{by_cause, followed as followed_to, reached as reached_as, beneath as beneath_to, not_followed, classify_explicit_root};
+ghost use Rattle.std.specs.Prelude.{◌≡◌, false};
+ghost use Rattle.rules.specs.Looking.{reached as reached_as, not_followed, classify_explicit_root};
 ghost use Rattle.looking.specs.Model.{root_state};
 
 use outside::{EntryKind, ScanCause, Scanner};
 use paths::Path;
 
-// The canonical path of a directory, and the path that is not found or that failed, stand beside.
+// Name and cases are those of the program that is carried over, so it is no Result.
+// The canonical path of a directory, and the path that is not found or that failed, stand beside: no enum holds a path.
 #[derive(Clone, Copy)]
 pub enum ExplicitRootState {
     Entry(EntryKind),
@@ -16,77 +16,55 @@ pub enum ExplicitRootState {
     Failed(ScanCause),
 }
 
-fn caused(cause: ScanCause, path: &Path, place: &mut Path) -> ExplicitRootState
-    ensures { root_state result (names place.new) ≡ by_cause (names path.now) cause }
-{
-    *place = *path;
-    match cause {
-        ScanCause::NotFound => ExplicitRootState::NotFound,
-        ScanCause::Number(number) => ExplicitRootState::Failed(ScanCause::Number(number)),
-    }
-}
-
-fn followed<S: Scanner>(scanner: &S, path: &Path, place: &mut Path) -> ExplicitRootState
-    ensures { root_state result (names place.new) ≡ followed_to (names path.now) (S.Scanner.classified scanner.now (names path.now) true) }
-{
-    match scanner.classify(path, true, place) {
-        Ok(kind) => ExplicitRootState::Entry(kind),
-        Err(cause) => caused(cause, path, place),
-    }
-}
-
-// Without following, a link is not safe.
-fn reached<S: Scanner>(scanner: &S, path: &Path, place: &mut Path) -> ExplicitRootState
-    ensures { root_state result (names place.new) ≡ reached_as (names path.now) (S.Scanner.classified scanner.now (names path.now) false) }
-{
-    match scanner.classify(path, false, place) {
-        Ok(EntryKind::NonFollowedSymlink) => ExplicitRootState::Unsafe,
-        Ok(kind) => ExplicitRootState::Entry(kind),
-        Err(cause) => caused(cause, path, place),
-    }
-}
-
-// One name further down, from how the path's parent stands.
-fn beneath<S: Scanner>(
+// A link is not safe; with following the scanner finds none.
+fn reached<S: Scanner>(
     scanner: &S,
-    above: ExplicitRootState,
+    follow: bool,
     path: &Path,
     place: &mut Path,
 ) -> ExplicitRootState
-    ensures { root_state result (names place.new) ≡ beneath_to (S.Scanner.classified scanner.now) (names path.now) (root_state above (names place.old)) }
+    ensures { root_state result place.new ≡ reached_as path.now (S.Scanner.classified scanner.now path.now follow) }
 {
-    match above {
-        ExplicitRootState::Entry(EntryKind::Directory) => reached(scanner, path, place),
-        ExplicitRootState::Entry(_) => ExplicitRootState::Unsafe,
-        ExplicitRootState::NotFound => ExplicitRootState::NotFound,
-        ExplicitRootState::Unsafe => ExplicitRootState::Unsafe,
-        ExplicitRootState::Failed(cause) => ExplicitRootState::Failed(cause),
+    match scanner.classify(path, follow, place) {
+        Ok(EntryKind::NonFollowedSymlink) => ExplicitRootState::Unsafe,
+        Ok(kind) => ExplicitRootState::Entry(kind),
+        Err(cause) => {
+            *place = *path;
+            match cause {
+                ScanCause::NotFound => ExplicitRootState::NotFound,
+                ScanCause::Number(_) => ExplicitRootState::Failed(cause),
+            }
+        }
     }
 }
 
 // From "/" down; a path has at most 8 names, so the recursion is shallow.
+#[tactic(auto, unfolding(rules::specs::Looking::not_followed))]
 fn not_followed<S: Scanner>(scanner: &S, path: &Path, place: &mut Path) -> ExplicitRootState
-    ensures { root_state result (names place.new) ≡ not_followed (S.Scanner.classified scanner.now) (names path.now) }
+    ensures { root_state result place.new ≡ not_followed (S.Scanner.classified scanner.now) path.now }
 {
     if path.depth() == 0 {
-        return reached(scanner, path, place);
+        return reached(scanner, false, path, place);
     }
-    let parent = path.parent();
-    let above = not_followed(scanner, &parent, place);
-    beneath(scanner, above, path, place)
+    match not_followed(scanner, &path.parent(), place) {
+        ExplicitRootState::Entry(EntryKind::Directory) => reached(scanner, false, path, place),
+        ExplicitRootState::Entry(_) => ExplicitRootState::Unsafe,
+        ended => ended,
+    }
 }
 
 // The place holds afterwards the path that stands beside the state.
+#[tactic(auto, unfolding(rules::specs::Looking::classify_explicit_root))]
 pub fn classify_explicit_root<S: Scanner>(
     scanner: &S,
     follow: bool,
     path: &Path,
     place: &mut Path,
 ) -> ExplicitRootState
-    ensures { root_state result (names place.new) ≡ classify_explicit_root (S.Scanner.classified scanner.now) follow (names path.now) }
+    ensures { root_state result place.new ≡ classify_explicit_root (S.Scanner.classified scanner.now) follow path.now }
 {
     if follow {
-        followed(scanner, path, place)
+        reached(scanner, true, path, place)
     } else {
         not_followed(scanner, path, place)
     }

@@ -6,7 +6,7 @@ use Rattle.outside.specs.declared.cause.BackendCause.TheVariants.{Io}
 use Rattle.outside.specs.declared.cause.ScanCause.TheVariants.{NotFound}
 use Rattle.outside.specs.Answers.{Entry, directory, other, Classified, ListingItem, Listed}
 use Rattle.outside.specs.Requests.{Request, watch, unwatch, done}
-use Rattle.tables.specs.declared.keys.Entry.{Entry as Row}
+use Rattle.tables.specs.declared.entry.Entry.{Entry as Row}
 use Rattle.rules.specs.declared.fault_kind.FaultKind.TheVariants.{TooManyHandles}
 use Rattle.rules.specs.declared.progress.Reason.TheVariants.{Idle}
 use Rattle.rules.specs.declared.watcher_kind.WatcherKind.TheVariants.{Inotify}

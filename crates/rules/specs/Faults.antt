@@ -7,17 +7,15 @@ use Rattle.outside.specs.declared.cause.ScanCause.{ScanCause}
 use Rattle.outside.specs.declared.cause.FilterFault.{FilterFault}
 use Rattle.outside.specs.declared.cause.Cause.{Cause}
 use Rattle.outside.specs.declared.cause.Cause.TheVariants.{Backend, Scan, Changed, Filter}
-use Rattle.rules.specs.declared.fault_kind.Layer.{Layer}
+-- A fault is the layer that it comes from, its kind, its path or none, and the cause from below, whole.
+pub use Rattle.rules.specs.declared.fault.Fault.{Fault}
 use Rattle.rules.specs.declared.fault_kind.Layer.TheVariants.{Watcher, Filter as FilterLayer}
 use Rattle.rules.specs.declared.fault_kind.FaultKind.{FaultKind}
 use Rattle.rules.specs.declared.fault_kind.FaultKind.TheVariants.{PathAdd, PathScan, PathRemove, TooManyWatches, TooManyHandles, Filter as FilterKind}
 
--- The layer that it comes from, its kind, its path or none, and the cause from below, whole.
-pub record Fault : Type 0 where
-  pub layer : Layer
-  pub kind : FaultKind
-  pub path : Option Names
-  pub cause : Cause
+-- A fault at a path, by the watcher.
+abbrev pub path_fault : FaultKind → Names → Cause → Fault
+path_fault k p c = record { layer = Watcher; kind = k; path = Some p; cause = c }
 
 -- The path that an answer carries, or else the path requested.
 abbrev pub fault_path : Option Names → Names → Names
@@ -26,11 +24,11 @@ fault_path (Some q) p = q
 
 -- A watch that was not done.
 abbrev pub add_fault : Names → BackendCause → Option Names → Fault
-add_fault p c at = record { layer = Watcher; kind = PathAdd; path = Some (fault_path at p); cause = Backend c }
+add_fault p c at = path_fault PathAdd (fault_path at p) (Backend c)
 
 -- An unwatch that was not done.
 abbrev pub remove_fault : Names → BackendCause → Option Names → Fault
-remove_fault p c at = record { layer = Watcher; kind = PathRemove; path = Some (fault_path at p); cause = Backend c }
+remove_fault p c at = path_fault PathRemove (fault_path at p) (Backend c)
 
 -- A scarce resource is no path's: only the path that the answer carries is named.
 abbrev pub resource_fault : FaultKind → BackendCause → Option Names → Fault
@@ -38,11 +36,11 @@ resource_fault k c at = record { layer = Watcher; kind = k; path = at; cause = B
 
 -- A scanner's cause at a path.
 abbrev pub scan_fault : Names → ScanCause → Fault
-scan_fault p c = record { layer = Watcher; kind = PathScan; path = Some p; cause = Scan c }
+scan_fault p c = path_fault PathScan p (Scan c)
 
 -- The path changed while it was being watched.
 abbrev pub changed_fault : Names → Fault
-changed_fault p = record { layer = Watcher; kind = PathScan; path = Some p; cause = Changed }
+changed_fault p = path_fault PathScan p Changed
 
 -- A filterer's fault by its number.
 abbrev pub filter_fault : ℕ → FilterFault

@@ -4,6 +4,7 @@ pub mod Refusals
 pub mod Faults
 pub mod Runs
 pub mod State
+pub mod Model
 pub mod Setters
 pub mod Edits
 pub mod Acts

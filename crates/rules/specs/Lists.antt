@@ -1,6 +1,7 @@
 -- Tables and lists: what the definitions say of them.
 use Rattle.std.specs.Prelude.{ℕ, Bool, true, false, cond, not, List, [], ◌∷◌, map, length, nat_lt}
-use Rattle.tables.specs.declared.keys.Entry.{Entry}
+use Rattle.std.specs.declared.cmp.Ordering.{Ordering}
+use Rattle.tables.specs.declared.entry.Entry.{Entry}
 use Rattle.tables.specs.Entries.{under}
 use Rattle.tables.specs.Lists.{any, placed}
 
@@ -13,12 +14,12 @@ abbrev pub Set : Type 0 → Type 0
 Set K = Table K (Unit {0})
 
 -- The key stands in the table.
-abbrev pub has : {K V : Type 0} → (K → K → Bool) → K → Table K V → Bool
-has same k xs = any (under same k) xs
+abbrev pub has : {K V : Type 0} → (K → K → Ordering) → K → Table K V → Bool
+has order k xs = any (under order k) xs
 
 -- There is a place for the key: its own, or a free one.
-abbrev pub has_place : {K V : Type 0} → ℕ → (K → K → Bool) → K → Table K V → Bool
-has_place limit same k xs = cond (has same k xs) true (nat_lt (length xs) limit)
+abbrev pub has_place : {K V : Type 0} → ℕ → (K → K → Ordering) → K → Table K V → Bool
+has_place limit order k xs = cond (has order k xs) true (nat_lt (length xs) limit)
 
 -- The keys in their order.
 abbrev pub keys : {K V : Type 0} → Table K V → List K

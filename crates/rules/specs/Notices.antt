@@ -1,7 +1,7 @@
 -- What the outside tells: something was created, removed, renamed, or is in doubt.
 use Rattle.std.specs.Prelude.{Bool, true, false, cond, ◌||◌, List, [], ◌∷◌, ◌++◌, map, Some, None, Ok, Err, filter, Option, Result}
-use Rattle.paths.specs.Names.{Names, within, same_path, starts_with}
-use Rattle.paths.specs.Order.{before_path}
+use Rattle.paths.specs.Names.{Names, within, starts_with}
+use Rattle.paths.specs.Order.{order_path}
 use Rattle.tables.specs.declared.full.NoPlace.{NoPlace}
 use Rattle.tables.specs.Entries.{entered}
 use Rattle.rules.specs.Lists.{Set, keys}
@@ -87,7 +87,7 @@ entered_set (Err e, ps) = None
 -- One path more in an ascending set of at most 128, if it keeps the limits of a path.
 abbrev pub gather_one : Names → Option (Set Names) → Option (Set Names)
 gather_one p None = None
-gather_one p (Some ps) = cond (within p) (entered_set (entered same_path before_path 128 p tt ps)) None
+gather_one p (Some ps) = cond (within p) (entered_set (entered order_path 128 p tt ps)) None
 
 -- All these paths in the set.
 abbrev pub gather : List Names → Option (Set Names) → Option (Set Names)

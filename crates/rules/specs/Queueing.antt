@@ -2,7 +2,7 @@
 use Rattle.std.specs.Prelude.{ℕ, ◌+◌, ◌-◌, Bool, true, false, cond, not, ◌&&◌, ◌||◌, List, [], ◌∷◌, map, length, filter, ◌==◌, nat_lt}
 use Rattle.paths.specs.Names.{Names, up, same_path, starts_with}
 use Rattle.paths.specs.Order.{before_path}
-use Rattle.tables.specs.declared.keys.Entry.{Entry}
+use Rattle.tables.specs.declared.entry.Entry.{Entry}
 use Rattle.tables.specs.Lists.{any}
 use Rattle.rules.specs.declared.progress.Phase.TheVariants.{Traversing, Sweeping}
 use Rattle.rules.specs.Lists.{keys, put, sorted}

@@ -1,36 +1,37 @@
--- Roots and identities, and the keys that are made of them.
-use Rattle.std.specs.Prelude.{Bool, true, false, cond, not, ◌&&◌}
+-- Roots and identities, and the keys that are made of them: how each is told apart and ordered.
+use Rattle.std.specs.Prelude.{◌≡◌, Bool, true, false, ◌&&◌, refl}
+use Rattle.std.specs.Bool.{beq}
+use Rattle.std.specs.Ordering.{ordering_then, bool_cmp, is_lt}
+use Rattle.std.specs.declared.cmp.Ordering.{Ordering}
+use Rattle.std.specs.declared.cmp.Ordering.TheVariants.{Less, Equal, Greater}
+use Rattle.rules.specs.contracts.identity_kind.IdentityKindPartialEq.TheImpl as kind_eq
+use Rattle.rules.specs.contracts.identity_kind.IdentityKindOrd.TheImpl as kind_ord
 use Rattle.paths.specs.Names.{Names, same_path}
-use Rattle.paths.specs.Order.{before_path}
+use Rattle.paths.specs.Order.{order_path}
 use Rattle.rules.specs.declared.identity_kind.IdentityKind.{IdentityKind}
 use Rattle.rules.specs.declared.identity_kind.IdentityKind.TheVariants.{Canonical, Lexical}
-
--- A root: a path, and whether what lies below is watched too.
-pub record Root : Type 0 where
-  pub path : Names
-  pub recursive : Bool
-
--- Both or neither.
-abbrev pub same_mark : Bool → Bool → Bool
-same_mark true b = b
-same_mark false b = not b
-
--- The unmarked comes first.
-abbrev pub before_mark : Bool → Bool → Bool
-before_mark a b = not a && b
+-- A root is a path, and whether what lies below is watched too.
+pub use Rattle.rules.specs.declared.root.Root.{Root}
+-- An identity says what a path is: a directory by its canonical path, anything else by the path as it is named.
+pub use Rattle.rules.specs.declared.identity.Identity.{Identity}
+-- A path that a root owns.
+pub use Rattle.rules.specs.declared.owned.Owned.{Owned}
+-- A root and a path that concerns it.
+pub use Rattle.rules.specs.declared.share.Share.{Share}
+-- An identity that was scanned for a root.
+pub use Rattle.rules.specs.declared.seen.Seen.{Seen}
 
 -- The same path and mark.
-unfoldable pub same_root : Root → Root → Bool
-same_root r q = same_path r.path q.path && same_mark r.recursive q.recursive
+abbrev pub same_root : Root → Root → Bool
+same_root r q = same_path r.path q.path && beq r.recursive q.recursive
 
 -- By path, the non-recursive first.
-unfoldable pub before_root : Root → Root → Bool
-before_root r q = cond (same_path r.path q.path) (before_mark r.recursive q.recursive) (before_path r.path q.path)
+abbrev pub order_root : Root → Root → Ordering
+order_root r q = ordering_then (order_path r.path q.path) (bool_cmp r.recursive q.recursive)
 
--- What a path is: a directory by its canonical path, anything else by the path as it is named.
-pub record Identity : Type 0 where
-  pub kind : IdentityKind
-  pub path : Names
+-- r comes before q.
+abbrev pub before_root : Root → Root → Bool
+before_root r q = is_lt (order_root r q)
 
 abbrev pub canonical : Names → Identity
 canonical p = record { kind = Canonical; path = p }
@@ -38,61 +39,36 @@ canonical p = record { kind = Canonical; path = p }
 abbrev pub lexical : Names → Identity
 lexical p = record { kind = Lexical; path = p }
 
+-- The same kind, as the derive tells kinds apart.
 abbrev pub same_kind : IdentityKind → IdentityKind → Bool
-same_kind Canonical Canonical = true
-same_kind Canonical Lexical = false
-same_kind Lexical Canonical = false
-same_kind Lexical Lexical = true
+same_kind = kind_eq.ghosts.eq
 
-abbrev pub before_kind : IdentityKind → IdentityKind → Bool
-before_kind Canonical Canonical = false
-before_kind Canonical Lexical = true
-before_kind Lexical Canonical = false
-before_kind Lexical Lexical = false
+-- The canonical ones first, as the derive orders kinds.
+abbrev pub order_kind : IdentityKind → IdentityKind → Ordering
+order_kind = kind_ord.ghosts.cmp
+
+pub kinds_apart : (same_kind Canonical Canonical ≡ true) × (same_kind Canonical Lexical ≡ false) × (same_kind Lexical Canonical ≡ false) × (same_kind Lexical Lexical ≡ true)
+kinds_apart = (refl, refl, refl, refl)
+
+pub kinds_ordered : (order_kind Canonical Canonical ≡ Equal) × (order_kind Canonical Lexical ≡ Less) × (order_kind Lexical Canonical ≡ Greater) × (order_kind Lexical Lexical ≡ Equal)
+kinds_ordered = (refl, refl, refl, refl)
 
 -- The same kind and path.
-unfoldable pub same_identity : Identity → Identity → Bool
+abbrev pub same_identity : Identity → Identity → Bool
 same_identity i j = same_kind i.kind j.kind && same_path i.path j.path
 
 -- The canonical ones first, each kind by path.
-unfoldable pub before_identity : Identity → Identity → Bool
-before_identity i j = cond (same_kind i.kind j.kind) (before_path i.path j.path) (before_kind i.kind j.kind)
-
--- A path that a root owns.
-pub record Owned : Type 0 where
-  pub path : Names
-  pub root : Root
-
--- The same path and root.
-unfoldable pub same_owned : Owned → Owned → Bool
-same_owned x y = same_path x.path y.path && same_root x.root y.root
+abbrev pub order_identity : Identity → Identity → Ordering
+order_identity i j = ordering_then (order_kind i.kind j.kind) (order_path i.path j.path)
 
 -- By path, then by root.
-unfoldable pub before_owned : Owned → Owned → Bool
-before_owned x y = cond (same_path x.path y.path) (before_root x.root y.root) (before_path x.path y.path)
-
--- A root and a path that concerns it.
-pub record Share : Type 0 where
-  pub root : Root
-  pub path : Names
-
--- The same root and path.
-unfoldable pub same_share : Share → Share → Bool
-same_share x y = same_root x.root y.root && same_path x.path y.path
+abbrev pub order_owned : Owned → Owned → Ordering
+order_owned x y = ordering_then (order_path x.path y.path) (order_root x.root y.root)
 
 -- By root, then by path.
-unfoldable pub before_share : Share → Share → Bool
-before_share x y = cond (same_root x.root y.root) (before_path x.path y.path) (before_root x.root y.root)
-
--- An identity that was scanned for a root.
-pub record Seen : Type 0 where
-  pub root : Root
-  pub identity : Identity
-
--- The same root and identity.
-unfoldable pub same_seen : Seen → Seen → Bool
-same_seen x y = same_root x.root y.root && same_identity x.identity y.identity
+abbrev pub order_share : Share → Share → Ordering
+order_share x y = ordering_then (order_root x.root y.root) (order_path x.path y.path)
 
 -- By root, then by identity.
-unfoldable pub before_seen : Seen → Seen → Bool
-before_seen x y = cond (same_root x.root y.root) (before_identity x.identity y.identity) (before_root x.root y.root)
+abbrev pub order_seen : Seen → Seen → Ordering
+order_seen x y = ordering_then (order_root x.root y.root) (order_identity x.identity y.identity)

@@ -1,24 +1,18 @@
 -- The state: each fact once, tables ascending by their keys.
 use Rattle.std.specs.Prelude.{ℕ, Bool, true, false, cond, not, ◌&&◌, ◌||◌, List, [], ◌∷◌, Some, None, filter, Option, ◌==◌}
 use Rattle.paths.specs.Names.{Names, same_path, starts_with}
+use Rattle.paths.specs.Order.{order_path}
 use Rattle.tables.specs.Entries.{held}
 use Rattle.tables.specs.Lists.{any}
 use Rattle.rules.specs.declared.progress.Phase.{Phase}
 use Rattle.rules.specs.declared.progress.Phase.TheVariants.{Traversing, Sweeping, Settled}
 use Rattle.rules.specs.declared.watcher_kind.WatcherKind.{WatcherKind}
 use Rattle.rules.specs.Lists.{Table, Set, has, keys, empty}
-use Rattle.rules.specs.Roots.{Root, same_root, Identity, same_identity, Owned, same_owned, Share, Seen}
-
--- A guard's identity; it is attached while the record of that identity counts it among its aliases.
-pub record Guard : Type 0 where
-  pub identity : Identity
-  pub attached : Bool
-
+use Rattle.rules.specs.Roots.{Root, order_root, Identity, same_identity, order_identity, Owned, order_owned, Share, Seen}
+-- A guard has an identity; it is attached while the record of that identity counts it among its aliases.
+pub use Rattle.rules.specs.declared.guard.Guard.{Guard}
 -- An owner found stale when the sweep of that epoch was gathered.
-pub record Stale : Type 0 where
-  pub path : Names
-  pub root : Root
-  pub epoch : ℕ
+pub use Rattle.rules.specs.declared.stale.Stale.{Stale}
 
 -- The works that wait; candidates and scans with the retries that they have left.
 pub data Work : Type 0 where
@@ -80,7 +74,7 @@ is_current s n = n == s.epoch
 
 -- The root is one of the configured.
 unfoldable pub is_configured : State → Root → Bool
-is_configured s r = has same_root r s.roots
+is_configured s r = has order_root r s.roots
 
 -- The path lies at or below a tombstone.
 unfoldable pub is_tombstoned : State → Names → Bool
@@ -88,11 +82,11 @@ is_tombstoned s p = any (λ e. starts_with p e.key) s.tombstones
 
 -- A tombstone stands at this very path.
 unfoldable pub has_tombstone : State → Names → Bool
-has_tombstone s p = has same_path p s.tombstones
+has_tombstone s p = has order_path p s.tombstones
 
 -- The path is skipped.
 unfoldable pub is_skipped : State → Names → Bool
-is_skipped s p = has same_path p s.skipped
+is_skipped s p = has order_path p s.skipped
 
 -- The latch or a skip forbids a watch of the path.
 unfoldable pub is_held_back : State → Names → Bool
@@ -100,19 +94,19 @@ is_held_back s p = is_latched s || is_skipped s p
 
 -- The identity of a logical path.
 unfoldable pub identity_at : State → Names → Option Identity
-identity_at s p = held same_path p s.logical
+identity_at s p = held order_path p s.logical
 
 -- The path is a logical path.
 unfoldable pub is_logical : State → Names → Bool
-is_logical s p = has same_path p s.logical
+is_logical s p = has order_path p s.logical
 
 -- The watch path of an identity's record.
 unfoldable pub watch_path_of : State → Identity → Option Names
-watch_path_of s i = held same_identity i s.records
+watch_path_of s i = held order_identity i s.records
 
 -- The identity has a record.
 unfoldable pub is_recorded : State → Identity → Bool
-is_recorded s i = has same_identity i s.records
+is_recorded s i = has order_identity i s.records
 
 -- The path is the watch path of a record.
 unfoldable pub is_watched : State → Names → Bool
@@ -120,15 +114,15 @@ is_watched s p = any (λ e. same_path e.value p) s.records
 
 -- The guard at a path.
 unfoldable pub guard_at : State → Names → Option Guard
-guard_at s p = held same_path p s.guards
+guard_at s p = held order_path p s.guards
 
 -- The path of the root's guard, if it has one.
 unfoldable pub guarded_by : State → Root → Option Names
-guarded_by s r = held same_root r s.guarded
+guarded_by s r = held order_root r s.guarded
 
 -- The root has a guard.
 unfoldable pub is_guarded : State → Root → Bool
-is_guarded s r = has same_root r s.guarded
+is_guarded s r = has order_root r s.guarded
 
 -- A guard at the path stands for some root.
 unfoldable pub guards_roots : State → Names → Bool
@@ -136,7 +130,7 @@ guards_roots s p = any (λ e. same_path e.value p) s.guarded
 
 -- The root owns the path, with a mark of whatever epoch.
 unfoldable pub has_source_owner : State → Names → Root → Bool
-has_source_owner s p r = has same_owned (record { path = p; root = r }) s.owners
+has_source_owner s p r = has order_owned (record { path = p; root = r }) s.owners
 
 -- Some root owns the path.
 unfoldable pub is_owned : State → Names → Bool
@@ -149,7 +143,7 @@ of_epoch n (Some m) = m == n
 
 -- The owner has exactly this mark.
 unfoldable pub is_marked : State → Names → Root → ℕ → Bool
-is_marked s p r n = of_epoch n (held same_owned (record { path = p; root = r }) s.owners)
+is_marked s p r n = of_epoch n (held order_owned (record { path = p; root = r }) s.owners)
 
 -- The path is logical, but no root owns it any more.
 unfoldable pub is_abandoned : State → Names → Bool

@@ -8,7 +8,7 @@ use Rattle.rules.specs.declared.progress.AddResult.{AddResult}
 use Rattle.rules.specs.declared.progress.AddResult.TheVariants.{Added, Skipped, Invalidated, Rebuild}
 use Rattle.rules.specs.Faults.{scan_fault, verdict_fault, filter_fault}
 use Rattle.rules.specs.Lists.{has}
-use Rattle.rules.specs.Roots.{Root, Identity, canonical, lexical, same_seen}
+use Rattle.rules.specs.Roots.{Root, Identity, canonical, lexical, order_seen}
 use Rattle.rules.specs.Runs.{World}
 use Rattle.rules.specs.State.{State, Work, guard_work, root_work, candidate_work, scan_work, probe_work, follows, kind_of, is_configured, is_tombstoned, is_skipped, is_guarded, has_source_owner}
 use Rattle.rules.specs.Edits.{◌⨾◌, set_by, for_each, push_back, push_front, put_seen, put_tombstone, put_retry_root, put_retry_candidate, drop_retry_root, drop_retry_candidate, drop_seen}
@@ -21,7 +21,7 @@ use Rattle.rules.specs.Guarding.{retains_guard, retry_root_at, ensure_guard}
 
 -- The identity was scanned for the root.
 unfoldable pub is_seen : State → Root → Identity → Bool
-is_seen s r i = has same_seen (record { root = r; identity = i }) s.seen
+is_seen s r i = has order_seen (record { root = r; identity = i }) s.seen
 
 -- Marks the identity as scanned for the root; whether it was not before.
 unfoldable pub mark_seen : Root → Identity → Act Bool

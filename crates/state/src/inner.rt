@@ -1,7 +1,6 @@
 // The recursor's plain inner struct: every table and queue, and the marks.
-use entries::{Guard, Identity, Owned, Root, Seen, Share, Stale, Work};
 use paths::Path;
-use rules::{Phase, WatcherKind};
+use rules::{Guard, Identity, Owned, Phase, Root, Seen, Share, Stale, WatcherKind, Work};
 use tables::{Queue, Table};
 
 #[derive(Drop)]

@@ -1,5 +1,5 @@
 // The recursor's state: bounded tables whose memory is had once, what they answer, and the edits of one or two of them.
-#![tactic(auto)]
+#![tactic(auto, unfolding(crate::proofs::Opened::opened))]
 
 pub mod drops;
 pub mod inner;
@@ -8,6 +8,5 @@ pub mod making;
 pub mod marks;
 pub mod places;
 pub mod puts;
-pub mod tests;
 
 pub use inner::Inner;

@@ -1,174 +1,152 @@
 // What the state answers.
 ghost use Rattle.std.specs.Prelude.{◌≡◌};
 ghost use Rattle.std.specs.Option.{option_map};
-ghost use Rattle.paths.specs.Model.{names};
-ghost use Rattle.rules.specs.State.{is_configured, has_tombstone, is_skipped, identity_at, is_logical, watch_path_of, is_recorded, is_watched, guard_at, guarded_by, guards_roots, is_owned, is_marked, has_aliases, nothing_waits, has_work, needs_retry, concerns_any};
+ghost use Rattle.rules.specs.State.{is_configured, has_tombstone, is_skipped, identity_at, is_logical, watch_path_of, is_recorded, is_watched, guard_at, guarded_by, guards_roots, is_owned, is_marked, has_aliases, nothing_waits, has_work, needs_retry, concerns, concerns_any};
 ghost use Rattle.rules.specs.Edits.{failures_at};
-ghost use Rattle.entries.specs.Model.{root as root_of, identity as identity_of, guard as guard_of};
 ghost use Rattle.state.specs.Model.{model};
 
 use crate::inner::Inner;
-use crate::tests::{Concerned, GuardedAt, HasIdentity, IsAttached, OwnerAt, WatchedAt};
-use entries::{Guard, Identity, Owned, Root};
 use paths::Path;
-use rules::Phase;
+use rules::{Guard, Identity, Owned, Phase, Root};
 
 impl Inner {
     pub fn is_configured(&self, root: &Root) -> bool
-        ensures { result ≡ is_configured (model self.now) (root_of root.now) }
+        ensures { result ≡ is_configured (model self.now) root.now }
     {
         self.roots.contains_key(root)
     }
 
     pub fn has_tombstone(&self, path: &Path) -> bool
-        ensures { result ≡ has_tombstone (model self.now) (names path.now) }
+        ensures { result ≡ has_tombstone (model self.now) path.now }
     {
         self.tombstones.contains_key(path)
     }
 
     pub fn is_skipped(&self, path: &Path) -> bool
-        ensures { result ≡ is_skipped (model self.now) (names path.now) }
+        ensures { result ≡ is_skipped (model self.now) path.now }
     {
         self.skipped.contains_key(path)
     }
 
     pub fn identity_at(&self, path: &Path) -> Option<&Identity>
-        ensures { option_map (λ x. identity_of x.now) result ≡ identity_at (model self.now) (names path.now) }
+        ensures { option_map (λ x. x.now) result ≡ identity_at (model self.now) path.now }
     {
         self.logical.get(path)
     }
 
     pub fn is_logical(&self, path: &Path) -> bool
-        ensures { result ≡ is_logical (model self.now) (names path.now) }
+        ensures { result ≡ is_logical (model self.now) path.now }
     {
         self.logical.contains_key(path)
     }
 
     pub fn watch_path_of(&self, identity: &Identity) -> Option<&Path>
-        ensures { option_map (λ x. names x.now) result ≡ watch_path_of (model self.now) (identity_of identity.now) }
+        ensures { option_map (λ x. x.now) result ≡ watch_path_of (model self.now) identity.now }
     {
         self.records.get(identity)
     }
 
     pub fn is_recorded(&self, identity: &Identity) -> bool
-        ensures { result ≡ is_recorded (model self.now) (identity_of identity.now) }
+        ensures { result ≡ is_recorded (model self.now) identity.now }
     {
         self.records.contains_key(identity)
     }
 
     pub fn is_watched(&self, path: &Path) -> bool
-        ensures { result ≡ is_watched (model self.now) (names path.now) }
+        ensures { result ≡ is_watched (model self.now) path.now }
     {
-        self.records.any(&WatchedAt { path: *path })
+        self.records.any(|e| e.value == *path)
     }
 
     pub fn guard_at(&self, path: &Path) -> Option<&Guard>
-        ensures { option_map (λ x. guard_of x.now) result ≡ guard_at (model self.now) (names path.now) }
+        ensures { option_map (λ x. x.now) result ≡ guard_at (model self.now) path.now }
     {
         self.guards.get(path)
     }
 
     pub fn guarded_by(&self, root: &Root) -> Option<&Path>
-        ensures { option_map (λ x. names x.now) result ≡ guarded_by (model self.now) (root_of root.now) }
+        ensures { option_map (λ x. x.now) result ≡ guarded_by (model self.now) root.now }
     {
         self.guarded.get(root)
     }
 
     pub fn guards_roots(&self, path: &Path) -> bool
-        ensures { result ≡ guards_roots (model self.now) (names path.now) }
+        ensures { result ≡ guards_roots (model self.now) path.now }
     {
-        self.guarded.any(&GuardedAt { path: *path })
+        self.guarded.any(|e| e.value == *path)
     }
 
     pub fn is_owned(&self, path: &Path) -> bool
-        ensures { result ≡ is_owned (model self.now) (names path.now) }
+        ensures { result ≡ is_owned (model self.now) path.now }
     {
-        self.owners.any(&OwnerAt { path: *path })
+        self.owners.any(|e| e.key.path == *path)
     }
 
     // The owner has exactly this mark.
-    pub fn is_marked(&self, path: &Path, root: &Root, epoch: u32) -> bool
-        ensures { result ≡ is_marked (model self.now) (names path.now) (root_of root.now) epoch }
+    pub fn is_marked(&self, owner: &Owned, epoch: u32) -> bool
+        ensures { result ≡ is_marked (model self.now) owner.now.path owner.now.root epoch }
     {
-        let key = Owned {
-            path: *path,
-            root: *root,
-        };
-        match self.owners.get(&key) {
-            Some(mark) => *mark == epoch,
-            None => false,
-        }
+        self.owners.get(owner).is_some_and(|mark| *mark == epoch)
     }
 
     // The record of this identity has an alias of either kind.
     pub fn has_aliases(&self, identity: &Identity) -> bool
-        ensures { result ≡ has_aliases (model self.now) (identity_of identity.now) }
+        ensures { result ≡ has_aliases (model self.now) identity.now }
     {
-        let logical = self.logical.any(&HasIdentity {
-            identity: *identity,
-        });
-        let guards = self.guards.any(&IsAttached {
-            identity: *identity,
-        });
-        logical || guards
+        self.logical.any(|e| e.value == *identity)
+            || self
+                .guards
+                .any(|e| e.value.attached && e.value.identity == *identity)
     }
 
     // How often watching the path has failed.
     pub fn failures_at(&self, path: &Path) -> u8
-        ensures { result ≡ failures_at (model self.now) (names path.now) }
+        ensures { result ≡ failures_at (model self.now) path.now }
     {
-        match self.failures.get(path) {
-            Some(count) => *count,
-            None => 0,
-        }
+        self.failures.get(path).copied().unwrap_or(0)
     }
 
     fn nothing_waits(&self) -> bool
         ensures { result ≡ nothing_waits (model self.now) }
     {
-        if !self.removals.is_empty() {
-            return false;
-        }
-        if !self.owner_removals.is_empty() {
-            return false;
-        }
-        if !self.work.is_empty() {
-            return false;
-        }
-        self.sweep.is_empty()
+        self.removals.is_empty()
+            && self.owner_removals.is_empty()
+            && self.work.is_empty()
+            && self.sweep.is_empty()
     }
 
     // Something waits, or the epoch is not settled.
     pub fn has_work(&self) -> bool
         ensures { result ≡ has_work (model self.now) }
     {
-        if !self.nothing_waits() {
-            return true;
-        }
-        match self.phase {
-            Phase::Traversing => true,
-            Phase::Sweeping => true,
-            Phase::Settled => false,
-        }
+        !self.nothing_waits() || !matches!(self.phase, Phase::Settled)
     }
 
     // Something is to be tried again, or the latch is set.
     pub fn needs_retry(&self) -> bool
         ensures { result ≡ needs_retry (model self.now) }
     {
-        if !self.retry_roots.is_empty() {
-            return true;
-        }
-        if !self.retry_candidates.is_empty() {
-            return true;
-        }
-        self.latched
+        !self.retry_roots.is_empty() || !self.retry_candidates.is_empty() || self.latched
     }
 
     // An event at the path concerns a configured root.
     pub fn concerns_any(&self, path: &Path) -> bool
-        ensures { result ≡ concerns_any (model self.now) (names path.now) }
+        ensures { result ≡ concerns_any (model self.now) path.now }
     {
-        self.roots.any(&Concerned { path: *path })
+        self.roots.any(|e| concerns(path, &e.key))
+    }
+}
+
+// An event at the path concerns the root: it is the root's, or lies below a recursive one, or is a child of another.
+fn concerns(path: &Path, root: &Root) -> bool
+    ensures { result ≡ concerns path.now root.now }
+{
+    if *path == root.path {
+        return true;
+    }
+    if root.recursive {
+        path.starts_with(&root.path)
+    } else {
+        path.depth() > 0 && path.parent() == root.path
     }
 }

@@ -1,7 +1,6 @@
 // Having the memory of all tables, once, and opening them afresh.
 ghost use Rattle.std.specs.Prelude.{◌≡◌, false, [], IfOk};
 ghost use Rattle.rules.specs.declared.watcher_kind.WatcherKind.TheVariants.{Inotify};
-ghost use Rattle.paths.specs.Model.{names};
 ghost use Rattle.rules.specs.Calls.{fresh};
 ghost use Rattle.state.specs.Model.{model};
 
@@ -49,7 +48,7 @@ impl Inner {
 
     // Empty tables and marks at their beginning.
     pub fn reset(&mut self, kind: WatcherKind, follow: bool, cwd: &Path)
-        ensures { model self.new ≡ fresh kind follow (names cwd.now) }
+        ensures { model self.new ≡ fresh kind follow cwd.now }
     {
         self.roots.clear();
         self.logical.clear();

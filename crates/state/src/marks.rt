@@ -1,6 +1,5 @@
 // The marks: the latch, whether it was reported, and what the opening fixed.
-ghost use Rattle.std.specs.Prelude.{◌≡◌, Bool};
-ghost use Rattle.paths.specs.Model.{names};
+ghost use Rattle.std.specs.Prelude.{◌≡◌};
 ghost use Rattle.rules.specs.Adding.{set_latch, set_reported};
 ghost use Rattle.rules.specs.State.{follows, kind_of, is_latched, is_reported, is_current};
 ghost use Rattle.state.specs.Model.{model};
@@ -42,7 +41,7 @@ impl Inner {
     }
 
     pub fn cwd(&self) -> &Path
-        ensures { names result.now ≡ (model self.now).cwd }
+        ensures { result.now ≡ (model self.now).cwd }
     {
         &self.cwd
     }

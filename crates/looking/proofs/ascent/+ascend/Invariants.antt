@@ -1,6 +1,5 @@
 use Rattle.std.proofs.Common.{length}
-use Rattle.paths.specs.Model.{names}
 use Rattle.looking.proofs.ascent.+ascend.Given as goal
 
 abbrev pub decreases-ascend : goal.decreases-ascend
-decreases-ascend g l = length (names l.path.now)
+decreases-ascend g l = length l.path.now

@@ -1,6 +1,5 @@
 use Rattle.std.proofs.Common.{length}
-use Rattle.paths.specs.Model.{names}
 use Rattle.looking.proofs.permit.+candidate_allowed.Given as goal
 
 abbrev pub decreases-candidate_allowed : goal.decreases-candidate_allowed
-decreases-candidate_allowed g l = length (names l.path.now)
+decreases-candidate_allowed g l = length l.path.now

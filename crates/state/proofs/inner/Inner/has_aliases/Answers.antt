@@ -1,23 +1,20 @@
-use Rattle.std.proofs.Common.{◌&&◌, vec_items, arith}
-use Rattle.entries.specs.Model.{identity, guard}
-use Rattle.paths.specs.Model.{names}
+use Rattle.std.proofs.Common.{◌&&◌, rules, arith}
+use Rattle.std.proofs.lemmas.Fn.{always_returns_same}
+use borrow.Author.Tests.{tests}
 use Rattle.rules.specs.Roots.{same_identity}
 use Rattle.rules.specs.State.{has_aliases}
 use Rattle.state.specs.Model.{model}
-use Rattle.tables.proofs.Views.{any_map}
-use Rattle.tables.specs.Entries.{viewed}
 use Rattle.state.proofs.inner.Inner.has_aliases.Goals as goal
 
-pub returns-then-logical : goal.returns-then-logical
+pub returns-then-any : goal.returns-then-any
 unfolding model has_aliases
-returns-then-logical c =
-    let a = any_map (viewed names identity) (λ e. same_identity e.value (identity c.args.identity.now)) (vec_items c.args.self.now.logical.items) in
-    let b = any_map (viewed names guard) (λ e. e.value.attached && same_identity e.value.identity (identity c.args.identity.now)) (vec_items c.args.self.now.guards.items) in
+returns-then-any c =
+    let a = c.any.ensures (λ e. same_identity e.value c.args.identity.now) (always_returns_same _ _ _ (λ a r f k. search rules)) in
     grind arith
 
-pub returns-else-logical : goal.returns-else-logical
+pub returns-else-any : goal.returns-else-any
 unfolding model has_aliases
-returns-else-logical c =
-    let a = any_map (viewed names identity) (λ e. same_identity e.value (identity c.args.identity.now)) (vec_items c.args.self.now.logical.items) in
-    let b = any_map (viewed names guard) (λ e. e.value.attached && same_identity e.value.identity (identity c.args.identity.now)) (vec_items c.args.self.now.guards.items) in
+returns-else-any c =
+    let a = c.any.ensures (λ e. same_identity e.value c.args.identity.now) (always_returns_same _ _ _ (λ a r f k. search rules)) in
+    let b = c.any-else-any.ensures (λ e. e.value.attached && same_identity e.value.identity c.args.identity.now) (always_returns_same _ _ _ (λ a r f k. search (rules, tests))) in
     grind arith

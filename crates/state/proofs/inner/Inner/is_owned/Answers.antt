@@ -1,13 +1,10 @@
-use Rattle.std.proofs.Common.{vec_items, ◌∙◌}
-use Rattle.entries.specs.Model.{owned}
-use Rattle.paths.specs.Model.{names}
+use Rattle.std.proofs.Common.{rules}
+use Rattle.std.proofs.lemmas.Fn.{always_returns_same}
 use Rattle.paths.specs.Names.{same_path}
 use Rattle.rules.specs.State.{is_owned}
 use Rattle.state.specs.Model.{model}
-use Rattle.tables.proofs.Views.{any_map}
-use Rattle.tables.specs.Entries.{viewed}
 use Rattle.state.proofs.inner.Inner.is_owned.Goals as goal
 
 pub returns : goal.returns
 unfolding model is_owned
-returns c = c.any.ensures ∙ any_map (viewed owned (λ n. n)) (λ e. same_path e.key.path (names c.args.path.now)) (vec_items c.args.self.now.owners.items)
+returns c = c.any.ensures (λ e. same_path e.key.path c.args.path.now) (always_returns_same _ _ _ (λ a r f k. search rules))

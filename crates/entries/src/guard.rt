@@ -1,8 +1,0 @@
-// A guard's identity, and whether the record of that identity counts it among its aliases.
-use crate::identity::Identity;
-
-#[derive(Clone, Copy)]
-pub struct Guard {
-    pub identity: Identity,
-    pub attached: bool,
-}
