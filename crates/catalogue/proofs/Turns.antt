@@ -1,13 +1,14 @@
 -- The turns of a walk through a catalogue.
-use Rattle.std.proofs.Common.{◌≡◌, ℕ, zero, suc, ◌-◌, ◌<◌, Bool, [], ◌∷◌, length, Some, None, Ok, Err, refl, ap, ◌∙◌, arith}
-use Rattle.outside.specs.declared.cause.ScanCause.{ScanCause}
+use Rattle.std.proofs.Common.{◌≡◌, ℕ, zero, suc, ◌-◌, ◌<◌, Bool, Some, Ok, Err, refl, ap, ◌∙◌, arith}
 use Rattle.outside.specs.declared.cause.ScanCause.TheVariants.{Number}
 use Rattle.paths.specs.Names.{Names}
-use Rattle.catalogue.specs.Nodes.{Node, Nodes, node_at}
-use Rattle.catalogue.specs.Ways.{seen, clear, replaced, stopped, way, passed, by_way, on_with, arrive}
+use Rattle.catalogue.specs.Nodes.{Node, Nodes}
+use Rattle.catalogue.specs.Ways.{clear, replaced, way, passed, by_way, on_with, arrive}
 use Rattle.catalogue.specs.declared.node.Kind.{Kind}
 use Rattle.catalogue.specs.declared.node.Kind.TheVariants.{Directory, File, Link}
-use Rattle.catalogue.specs.Model.{lost, kind_at, node_of}
+use Rattle.catalogue.specs.declared.way.Stop.{Stop}
+use Rattle.catalogue.specs.declared.way.Stop.TheVariants.{Lost, Cause}
+use Rattle.catalogue.specs.Model.{kind_at, node_of, way_of, stopped_by}
 
 module _ (last : Bool) (xs : Nodes) (p : Names) where
   pub turn_clear : (left : ℕ) (x : Node) → passed last (way xs p) ≡ clear x → arrive last xs left p ≡ Ok (record { at = p; node = x })
@@ -15,15 +16,12 @@ module _ (last : Bool) (xs : Nodes) (p : Names) where
   turn_clear zero x e = ap (λ w. by_way w p (λ q. Err (Number 40))) e
   turn_clear (suc left) x e = ap (λ w. by_way w p (on_with (arrive last xs left))) e
 
-  pub turn_stopped : (left : ℕ) (c : ScanCause) → passed last (way xs p) ≡ stopped c → arrive last xs left p ≡ Err c
+  pub turn_stop : (left : ℕ) (s : Stop) (t : Names) → passed last (way xs p) ≡ way_of (Err s) t → arrive last xs left p ≡ Err (stopped_by s left)
   unfolding arrive
-  turn_stopped zero c e = ap (λ w. by_way w p (λ q. Err (Number 40))) e
-  turn_stopped (suc left) c e = ap (λ w. by_way w p (on_with (arrive last xs left))) e
-
-  pub turn_lost : (left : ℕ) → passed last (way xs p) ≡ replaced None → arrive last xs left p ≡ Err (lost left)
-  unfolding arrive
-  turn_lost zero e = ap (λ w. by_way w p (λ q. Err (Number 40))) e
-  turn_lost (suc left) e = ap (λ w. by_way w p (on_with (arrive last xs left))) e
+  turn_stop zero Lost t e = ap (λ w. by_way w p (λ q. Err (Number 40))) e
+  turn_stop zero (Cause c) t e = ap (λ w. by_way w p (λ q. Err (Number 40))) e
+  turn_stop (suc left) Lost t e = ap (λ w. by_way w p (on_with (arrive last xs left))) e
+  turn_stop (suc left) (Cause c) t e = ap (λ w. by_way w p (on_with (arrive last xs left))) e
 
   pub turn_last : (left : ℕ) (q : Names) → left ≡ 0 → passed last (way xs p) ≡ replaced (Some q) → arrive last xs left p ≡ Err (Number 40)
   unfolding arrive
@@ -39,8 +37,3 @@ pub kind_node : (k : Kind) (t : Names) → kind_at (node_of k t) ≡ k
 kind_node Directory t = refl
 kind_node File t = refl
 kind_node Link t = refl
-
--- the way to "/"
-pub way_top : (xs : Nodes) (p : Names) → length p ≡ 0 → way xs p ≡ seen (node_at xs p)
-way_top xs [] h = refl
-way_top xs (n ∷ p) h = absurd (omega arith)

@@ -1,5 +1,6 @@
 -- The nodes of a catalogue, each under its path.
 use Rattle.std.specs.Prelude.{cond, not, List, [], ◌∷◌, Some, None, filter, Option, Result}
+use Rattle.std.specs.List.{filter_map}
 use Rattle.paths.specs.Names.{Name, Names, same_path, starts_with}
 use Rattle.paths.specs.Order.{before_path}
 use Rattle.tables.specs.declared.keys.Entry.{Entry}
@@ -37,12 +38,6 @@ abbrev pub child_name : Names → Names → Option Name
 child_name [] d = None
 child_name (n ∷ p) d = cond (same_path p d) (Some n) None
 
--- A name in front of others, if there is one.
-abbrev pub joined : Option Name → List Name → List Name
-joined None ns = ns
-joined (Some n) ns = n ∷ ns
-
 -- The names of the children of d, in the order of the nodes.
 abbrev pub children : Names → Nodes → List Name
-children d [] = []
-children d (e ∷ es) = joined (child_name e.key d) (children d es)
+children d xs = filter_map (λ e. child_name e.key d) xs

@@ -1,19 +1,19 @@
 // A node of a catalogue.
-ghost use Rattle.std.specs.Prelude.{◌≡◌};
+ghost use Rattle.std.specs.Prelude.{◌≡◌, []};
 ghost use Rattle.paths.specs.Model.{names};
 ghost use Rattle.catalogue.specs.Nodes.{directory, file, link};
-ghost use Rattle.catalogue.specs.Model.{node};
+ghost use Rattle.catalogue.specs.Model.{node, node_of};
 
 use paths::Path;
 
-#[derive(Clone, Copy)]
+#[derive(Clone, Copy, PartialEq, Eq)]
 pub enum Kind {
     Directory,
     File,
     Link,
 }
 
-// The target counts only for a link.
+// The target counts only for a link; it stands beside the kind, since no enum holds a path.
 #[derive(Clone, Copy)]
 pub struct Node {
     pub(crate) kind: Kind,
@@ -24,19 +24,13 @@ impl Node {
     pub fn directory() -> Node
         ensures { node result ≡ directory }
     {
-        Node {
-            kind: Kind::Directory,
-            target: Path::root(),
-        }
+        Node::plain(Kind::Directory)
     }
 
     pub fn file() -> Node
         ensures { node result ≡ file }
     {
-        Node {
-            kind: Kind::File,
-            target: Path::root(),
-        }
+        Node::plain(Kind::File)
     }
 
     pub fn link(target: &Path) -> Node
@@ -45,6 +39,16 @@ impl Node {
         Node {
             kind: Kind::Link,
             target: *target,
+        }
+    }
+
+    // A node whose target does not count.
+    fn plain(kind: Kind) -> Node
+        ensures { node result ≡ node_of kind [] }
+    {
+        Node {
+            kind,
+            target: Path::root(),
         }
     }
 }

@@ -1,5 +1,5 @@
 // A catalogue as a scanner.
-ghost use Rattle.std.specs.Prelude.{◌≡◌, ℕ, true, false, map, Ok};
+ghost use Rattle.std.specs.Prelude.{◌≡◌, true, false, map, Ok};
 ghost use Rattle.std.specs.Option.{option_map};
 ghost use Rattle.std.specs.List.{slice_get};
 ghost use Rattle.paths.specs.Model.{names, spelling};
@@ -18,13 +18,12 @@ use paths::{Name, Path};
 fn child_name(path: &Path, directory: &Path) -> Option<Name>
     ensures { option_map spelling result ≡ child_name (names path.now) (names directory.now) }
 {
-    if path.depth() == 0 {
-        return None;
-    }
+    // "/" is its own parent, and has no name
     if path.parent() == *directory {
-        return path.name();
+        path.name()
+    } else {
+        None
     }
-    None
 }
 
 // What stands at a path that was come to; a link there is not followed further.
@@ -32,14 +31,11 @@ fn entry(kind: Kind, at: &Path, canonical: &mut Path) -> EntryKind
     ensures value { result ≡ kind_of (entry_by kind (names at.now)) }
     ensures after { names canonical.new ≡ canonical_of (entry_by kind (names at.now)) (names canonical.old) }
 {
-    match kind {
-        Kind::Directory => {
-            *canonical = *at;
-            EntryKind::Directory
-        }
-        Kind::File => EntryKind::Other,
-        Kind::Link => EntryKind::Other,
+    if kind != Kind::Directory {
+        return EntryKind::Other;
     }
+    *canonical = *at;
+    EntryKind::Directory
 }
 
 impl Catalogue {
@@ -51,10 +47,8 @@ impl Catalogue {
         let mut at = *path;
         match self.arrive(true, &mut at) {
             Ok(kind) => Ok(entry(kind, &at, canonical)),
-            Err(cause) => match cause {
-                ScanCause::NotFound => Ok(EntryKind::Other),
-                ScanCause::Number(number) => Err(ScanCause::Number(number)),
-            },
+            Err(ScanCause::NotFound) => Ok(EntryKind::Other),
+            Err(cause) => Err(cause),
         }
     }
 
@@ -62,16 +56,12 @@ impl Catalogue {
     fn child(&self, directory: &Path, number: usize) -> Item
         ensures { item_of result ≡ slice_get (map Ok (children (names directory.now) (nodes self.now))) number }
     {
-        let mut left = number;
-        for entry in self.nodes.entries() {
-            if let Some(name) = child_name(&entry.key, directory) {
-                if left == 0 {
-                    return Item::Child(name);
-                }
-                left -= 1;
-            }
-        }
-        Item::End
+        self.nodes
+            .entries()
+            .iter()
+            .filter_map(|entry| child_name(&entry.key, directory))
+            .nth(number)
+            .map_or(Item::End, Item::Child)
     }
 }
 
@@ -90,18 +80,9 @@ impl Scanner for Catalogue {
     ) -> Result<EntryKind, ScanCause> {
         let mut at = *path;
         match self.arrive(false, &mut at)? {
-            Kind::Directory => {
-                *canonical = at;
-                Ok(EntryKind::Directory)
-            }
-            Kind::File => Ok(EntryKind::Other),
-            Kind::Link => {
-                if follow {
-                    self.follow(path, canonical)
-                } else {
-                    Ok(EntryKind::NonFollowedSymlink)
-                }
-            }
+            Kind::Link if follow => self.follow(path, canonical),
+            Kind::Link => Ok(EntryKind::NonFollowedSymlink),
+            kind => Ok(entry(kind, &at, canonical)),
         }
     }
 
@@ -109,8 +90,7 @@ impl Scanner for Catalogue {
         let mut at = *path;
         match self.arrive(true, &mut at)? {
             Kind::Directory => Ok(self.child(&at, number)),
-            Kind::File => Err(ScanCause::Number(20)),
-            Kind::Link => Err(ScanCause::Number(20)),
+            Kind::File | Kind::Link => Err(ScanCause::Number(20)),
         }
     }
 }

@@ -4,8 +4,5 @@ use Rattle.catalogue.specs.Ways.{arrive}
 use Rattle.catalogue.specs.Model.{nodes}
 use Rattle.catalogue.proofs.tree.Catalogue.arrive.Given as goal
 
-abbrev pub invariant-turns : goal.invariant-turns
-invariant-turns l = arrive l.last (nodes l.self) l.left (names l.place) ≡ arrive l.last (nodes l.self) 8 (names l.initial.place)
-
-abbrev pub decreases-turns : goal.decreases-turns
-decreases-turns l = l.left
+abbrev pub invariant-loop-left : goal.invariant-loop-left
+invariant-loop-left l = arrive l.last (nodes l.self) l.left (names l.place) ≡ arrive l.last (nodes l.self) 8 (names l.initial.place)
