@@ -1,9 +1,8 @@
 // The way down from "/" to a path.
 ghost use Rattle.std.specs.Prelude.{◌≡◌, Some};
-ghost use Rattle.paths.specs.Model.{names};
 ghost use Rattle.catalogue.specs.Nodes.{node_at};
 ghost use Rattle.catalogue.specs.Ways.{seen as seen_as, below, replaced, passed, way as way_to};
-ghost use Rattle.catalogue.specs.Model.{nodes, way_of, stopped_by};
+ghost use Rattle.catalogue.specs.Model.{way_of, stopped_by};
 
 use crate::node::Kind;
 use crate::tree::Catalogue;
@@ -34,7 +33,7 @@ impl Stop {
 // No result holds a path: a link's target, or the path that replaces this one, goes into the place that the caller lends.
 impl Catalogue {
     fn seen(&self, path: &Path, place: &mut Path) -> Result<Option<Kind>, Stop>
-        ensures { way_of result (names place.new) ≡ seen_as (node_at (nodes self.now) (names path.now)) }
+        ensures { way_of result place.new ≡ seen_as (node_at self.now path.now) }
     {
         let node = self
             .nodes
@@ -46,7 +45,7 @@ impl Catalogue {
 
     // The path's last name below the path in the place, which it then holds.
     fn led(path: &Path, place: &mut Path) -> Result<Option<Kind>, Stop>
-        ensures { way_of result (names place.new) ≡ replaced (below (names path.now) (Some (names place.old))) }
+        ensures { way_of result place.new ≡ replaced (below path.now (Some place.old)) }
     {
         let name = path.name().ok_or(Stop::Lost)?;
         let base = *place;
@@ -55,7 +54,7 @@ impl Catalogue {
     }
 
     fn way(&self, path: &Path, place: &mut Path) -> Result<Option<Kind>, Stop>
-        ensures { way_of result (names place.new) ≡ way_to (nodes self.now) (names path.now) }
+        ensures { way_of result place.new ≡ way_to self.now path.now }
     {
         if path.depth() == 0 {
             return self.seen(path, place);
@@ -74,7 +73,7 @@ impl Catalogue {
         path: &Path,
         place: &mut Path,
     ) -> Result<Option<Kind>, Stop>
-        ensures { way_of result (names place.new) ≡ passed last (way_to (nodes self.now) (names path.now)) }
+        ensures { way_of result place.new ≡ passed last (way_to self.now path.now) }
     {
         match self.way(path, place)? {
             Some(Kind::Link) if last => Ok(None),

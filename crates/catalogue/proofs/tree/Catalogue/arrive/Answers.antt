@@ -1,26 +1,28 @@
-use Rattle.std.proofs.Common.{Ok, Err, sym, ap, ◌∙◌, arith}
-use Rattle.paths.specs.Model.{names}
-use Rattle.catalogue.specs.Model.{nodes, node_of, replied, come_to}
-use Rattle.catalogue.proofs.Turns.{turn_clear, turn_stop, turn_last, turn_on, kind_node}
+use Rattle.std.proofs.Common.{Ok, Err, sym, ap, ◌∙◌, arith, rules}
+use Rattle.std.proofs.lemmas.Result.{err_from_is_err_and}
+use Rattle.catalogue.specs.Model.{replied, come_to}
+use Rattle.catalogue.specs.Targets.{kind_back}
+use Rattle.catalogue.proofs.Turns.{turn, turn_last, turn_on}
 use Rattle.catalogue.proofs.tree.Catalogue.arrive.Goals as goal
 
-pub returns-in-Ok-Some : goal.returns-in-Ok-Some
-returns-in-Ok-Some c =
-    let e = sym c.loop-left.invariant ∙ turn_clear c.args.last (nodes c.args.self.now) (names c.loop-left.place) c.loop-left.left (node_of c.in-Ok-Some.kind (names c.pass.new.place)) (sym (rw c.in-Ok-Some.field-0-is at c.in-Ok-Some.ensures)) in
-    record {
-      value = sym (ap replied e ∙ ap Ok (kind_node c.in-Ok-Some.kind (names c.pass.new.place)));
-      after = sym (ap (λ a. come_to a (names c.loop-left.place)) e);
-    }
+pub returns-in_err-kind : goal.returns-in_err-kind
+returns-in_err-kind c =
+    let e = sym c.loop-left.invariant ∙ turn _ _ _ _ c.pass-passed.new.place c.pass-passed.result _ _ (λ s d q. search rules) c.pass-passed.ensures c.map_err.ensures.cases c.in_err-kind.was in
+    let p = err_from_is_err_and c.from_residual.result c.from_residual.ensures.1 in
+    record { value = p.1 ∙ (ap Err p.2 ∙ sym (ap replied e)); after = sym (ap (λ a. come_to a c.loop-left.place) e) }
 
-pub returns-in-Err : goal.returns-in-Err
-returns-in-Err c =
-    let e = sym c.loop-left.invariant ∙ turn_stop c.args.last (nodes c.args.self.now) (names c.loop-left.place) c.loop-left.left c.in-Err.stop (names c.pass.new.place) (sym c.in-Err.ensures) in
-    record { value = ap Err c.cause.ensures ∙ sym (ap replied e); after = sym (ap (λ a. come_to a (names c.loop-left.place)) e) }
+pub returns-in-Some : goal.returns-in-Some
+returns-in-Some c =
+    let e = sym c.loop-left.invariant ∙ turn _ _ _ _ c.pass-passed.new.place c.pass-passed.result _ _ (λ s d q. search rules) c.pass-passed.ensures c.map_err.ensures.cases (c.in_ok-kind.was ∙ ap Ok c.in-Some.is) in
+    record { value = sym (ap replied e ∙ ap Ok (kind_back c.in-Some.kind c.pass-passed.new.place)); after = sym (ap (λ a. come_to a c.loop-left.place) e) }
 
 pub loop-left-preserved : goal.loop-left-preserved
-loop-left-preserved c = sym (turn_on c.args.last (nodes c.args.self.now) (names c.loop-left.place) c.loop-left.left (names c.pass.new.place) (omega arith) (sym (rw c.in-Ok-None.field-0-is at c.in-Ok-None.ensures))) ∙ c.loop-left.invariant
+loop-left-preserved c =
+    let e = sym c.loop-left.invariant ∙ turn _ _ _ _ c.pass-passed.new.place c.pass-passed.result _ _ (λ s d q. search rules) c.pass-passed.ensures c.map_err.ensures.cases (c.in_ok-kind.was ∙ ap Ok c.in_default.is) in
+    sym (e ∙ turn_on c.args.last c.args.self.now c.loop-left.place c.loop-left.left-counter c.pass-passed.new.place (omega arith))
 
-pub returns-in-Ok-None : goal.returns-in-Ok-None
-returns-in-Ok-None c =
-    let e = sym c.loop-left.invariant ∙ turn_last c.args.last (nodes c.args.self.now) (names c.loop-left.place) c.loop-left.left (names c.pass.new.place) (omega arith) (sym (rw c.in-Ok-None.field-0-is at c.in-Ok-None.ensures)) in
-    record { value = sym (ap replied e); after = sym (ap (λ a. come_to a (names c.pass.new.place)) e) }
+pub returns-in_default : goal.returns-in_default
+returns-in_default c =
+    let e = sym c.loop-left.invariant ∙ turn _ _ _ _ c.pass-passed.new.place c.pass-passed.result _ _ (λ s d q. search rules) c.pass-passed.ensures c.map_err.ensures.cases (c.in_ok-kind.was ∙ ap Ok c.in_default.is) in
+    let z = e ∙ turn_last c.args.last c.args.self.now c.loop-left.place c.loop-left.left-counter c.pass-passed.new.place (omega arith) in
+    record { value = sym (ap replied z); after = sym (ap (λ a. come_to a c.pass-passed.new.place) z) }
