@@ -1,46 +1,62 @@
 -- The turns of a walk through a catalogue.
-use Rattle.std.proofs.Common.{◌≡◌, ℕ, zero, suc, ◌-◌, ◌<◌, Bool, [], ◌∷◌, length, Some, None, Ok, Err, refl, ap, ◌∙◌, arith}
+use Rattle.std.proofs.Common.{◌≡◌, ℕ, zero, suc, ◌-◌, ◌<◌, Bool, Some, None, Ok, Err, Option, Result, refl, sym, ap, ◌∙◌, arith}
+use Rattle.std.specs.Result.{MatchResult, IsErrAnd}
 use Rattle.outside.specs.declared.cause.ScanCause.{ScanCause}
 use Rattle.outside.specs.declared.cause.ScanCause.TheVariants.{Number}
 use Rattle.paths.specs.Names.{Names}
-use Rattle.catalogue.specs.Nodes.{Node, Nodes, node_at}
-use Rattle.catalogue.specs.Ways.{seen, clear, replaced, stopped, way, passed, by_way, on_with, arrive}
 use Rattle.catalogue.specs.declared.node.Kind.{Kind}
-use Rattle.catalogue.specs.declared.node.Kind.TheVariants.{Directory, File, Link}
-use Rattle.catalogue.specs.Model.{lost, kind_at, node_of}
+use Rattle.catalogue.specs.declared.way.Stop.{Stop}
+use Rattle.catalogue.specs.declared.way.Stop.TheVariants.{Lost, Cause}
+use Rattle.catalogue.specs.Nodes.{Nodes}
+use Rattle.catalogue.specs.Ways.{Way, Arrival, way, passed, by_way, on_with, arrive}
+use Rattle.catalogue.specs.Model.{node_of, way_of, stopped_by}
+
+module _ (last : Bool) (xs : Nodes) where
+  -- where the walk comes to from a path that replaces another
+  abbrev pub onward : ℕ → Names → Result Arrival ScanCause
+  onward zero t = Err (Number 40)
+  onward (suc left) t = arrive last xs left t
+
+  pub onward_last : (left : ℕ) (t : Names) → left ≡ 0 → onward left t ≡ Err (Number 40)
+  onward_last zero t z = refl
+  onward_last (suc left) t z = absurd (omega arith)
+
+  pub onward_more : (left : ℕ) (t : Names) → 0 < left → onward left t ≡ arrive last xs (left - 1) t
+  onward_more zero t z = absurd (omega arith)
+  onward_more (suc left) t z = ap (λ k. arrive last xs k t) (omega arith)
 
 module _ (last : Bool) (xs : Nodes) (p : Names) where
-  pub turn_clear : (left : ℕ) (x : Node) → passed last (way xs p) ≡ clear x → arrive last xs left p ≡ Ok (record { at = p; node = x })
+  -- where the walk comes to by the end of its way, with the path t beside it
+  abbrev pub turned : ℕ → Names → Result (Option Kind) ScanCause → Result Arrival ScanCause
+  turned left t (Ok (Some k)) = Ok (record { at = p; node = node_of k t })
+  turned left t (Ok None) = onward last xs left t
+  turned left t (Err c) = Err c
+
+  abbrev by : ℕ → Way → Result Arrival ScanCause
+  by zero w = by_way w p (λ q. Err (Number 40))
+  by (suc left) w = by_way w p (on_with (arrive last xs left))
+
+  arrive_by : (left : ℕ) → arrive last xs left p ≡ by left (passed last (way xs p))
   unfolding arrive
-  turn_clear zero x e = ap (λ w. by_way w p (λ q. Err (Number 40))) e
-  turn_clear (suc left) x e = ap (λ w. by_way w p (on_with (arrive last xs left))) e
+  arrive_by zero = refl
+  arrive_by (suc left) = refl
 
-  pub turn_stopped : (left : ℕ) (c : ScanCause) → passed last (way xs p) ≡ stopped c → arrive last xs left p ≡ Err c
-  unfolding arrive
-  turn_stopped zero c e = ap (λ w. by_way w p (λ q. Err (Number 40))) e
-  turn_stopped (suc left) c e = ap (λ w. by_way w p (on_with (arrive last xs left))) e
+  by_stop : (left : ℕ) (s : Stop) (t : Names) → by left (way_of (Err s) t) ≡ Err (stopped_by s left)
+  by_stop zero Lost t = refl
+  by_stop zero (Cause c) t = refl
+  by_stop (suc left) Lost t = refl
+  by_stop (suc left) (Cause c) t = refl
 
-  pub turn_lost : (left : ℕ) → passed last (way xs p) ≡ replaced None → arrive last xs left p ≡ Err (lost left)
-  unfolding arrive
-  turn_lost zero e = ap (λ w. by_way w p (λ q. Err (Number 40))) e
-  turn_lost (suc left) e = ap (λ w. by_way w p (on_with (arrive last xs left))) e
+  by_end : {Q : Stop → ScanCause → Type 0} (left : ℕ) (t : Names) (s : Result (Option Kind) Stop) (r : Result (Option Kind) ScanCause) → ((e : Stop) (c : ScanCause) → Q e c → c ≡ stopped_by e left)
+      → MatchResult s (λ o. r ≡ Ok o) (λ e. IsErrAnd r (Q e)) → by left (way_of s t) ≡ turned left t r
+  by_end zero t (Ok None) r k m = ap (turned zero t) (sym m)
+  by_end zero t (Ok (Some x)) r k m = ap (turned zero t) (sym m)
+  by_end (suc left) t (Ok None) r k m = ap (turned (suc left) t) (sym m)
+  by_end (suc left) t (Ok (Some x)) r k m = ap (turned (suc left) t) (sym m)
+  by_end left t (Err e) (Ok o) k m = absurd m
+  by_end left t (Err e) (Err c) k m = by_stop left e t ∙ ap Err (sym (k e c m))
 
-  pub turn_last : (left : ℕ) (q : Names) → left ≡ 0 → passed last (way xs p) ≡ replaced (Some q) → arrive last xs left p ≡ Err (Number 40)
-  unfolding arrive
-  turn_last zero q z e = ap (λ w. by_way w p (λ q. Err (Number 40))) e
-  turn_last (suc left) q z e = absurd (omega arith)
-
-  pub turn_on : (left : ℕ) (q : Names) → 0 < left → passed last (way xs p) ≡ replaced (Some q) → arrive last xs left p ≡ arrive last xs (left - 1) q
-  unfolding arrive
-  turn_on zero q z e = absurd (omega arith)
-  turn_on (suc left) q z e = ap (λ w. by_way w p (on_with (arrive last xs left))) e ∙ ap (λ k. arrive last xs k q) (omega arith)
-
-pub kind_node : (k : Kind) (t : Names) → kind_at (node_of k t) ≡ k
-kind_node Directory t = refl
-kind_node File t = refl
-kind_node Link t = refl
-
--- the way to "/"
-pub way_top : (xs : Nodes) (p : Names) → length p ≡ 0 → way xs p ≡ seen (node_at xs p)
-way_top xs [] h = refl
-way_top xs (n ∷ p) h = absurd (omega arith)
+  -- a turn, where the end s of the way is answered as r, which is x
+  pub turn : {Q : Stop → ScanCause → Type 0} (left : ℕ) (t : Names) (s : Result (Option Kind) Stop) (r x : Result (Option Kind) ScanCause) → ((e : Stop) (c : ScanCause) → Q e c → c ≡ stopped_by e left)
+      → way_of s t ≡ passed last (way xs p) → MatchResult s (λ o. r ≡ Ok o) (λ e. IsErrAnd r (Q e)) → r ≡ x → arrive last xs left p ≡ turned left t x
+  turn left t s r x k e m w = arrive_by left ∙ ap (by left) (sym e) ∙ by_end left t s r k m ∙ ap (turned left t) w

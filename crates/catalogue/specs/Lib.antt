@@ -1,4 +1,5 @@
 pub mod Nodes
 pub mod Ways
 pub mod Model
+pub mod Targets
 pub mod Arrivals

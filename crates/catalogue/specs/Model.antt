@@ -1,20 +1,14 @@
 -- What the values of the code stand for.
-use Rattle.std.specs.Prelude.{ℕ, zero, suc, map, Some, None, Ok, Err, vec_items, Result}
+use Rattle.std.specs.Prelude.{ℕ, zero, suc, Some, None, Ok, Err, Option, Result}
 use Rattle.paths.specs.Names.{Names}
-use Rattle.paths.specs.Model.{names}
-use Rattle.paths.specs.declared.path.Path.{Path}
-use Rattle.tables.specs.declared.keys.Entry.{Entry as Row}
-use Rattle.tables.specs.Entries.{viewed}
 use Rattle.outside.specs.Answers.{Entry, directory as a_directory, other}
 use Rattle.outside.specs.declared.cause.ScanCause.{ScanCause}
 use Rattle.outside.specs.declared.cause.ScanCause.TheVariants.{NotFound, Number}
 use Rattle.catalogue.specs.declared.node.Kind.{Kind}
 use Rattle.catalogue.specs.declared.node.Kind.TheVariants.{Directory, File, Link}
-use Rattle.catalogue.specs.declared.node.Node.{Node as NodeValue}
-use Rattle.catalogue.specs.declared.way.Way.{Way as WayValue}
-use Rattle.catalogue.specs.declared.way.Way.TheVariants.{Clear, Replaced, Lost, Stopped}
-use Rattle.catalogue.specs.declared.tree.Catalogue.{Catalogue}
-use Rattle.catalogue.specs.Nodes.{Node, directory, file, link, Nodes}
+use Rattle.catalogue.specs.declared.way.Stop.{Stop}
+use Rattle.catalogue.specs.declared.way.Stop.TheVariants.{Lost, Cause}
+use Rattle.catalogue.specs.Nodes.{Node, directory, file, link}
 use Rattle.catalogue.specs.Ways.{Way, clear, replaced, stopped, Arrival}
 
 -- A kind with the path that stands beside it, a link's target.
@@ -23,22 +17,12 @@ node_of Directory t = directory
 node_of File t = file
 node_of Link t = link t
 
-abbrev pub node : NodeValue → Node
-node x = node_of x.kind (names x.target)
-
-abbrev pub entry_of : Row Path NodeValue → Row Names Node
-entry_of e = viewed names node e
-
--- The nodes of a catalogue.
-abbrev pub nodes : Catalogue → Nodes
-nodes c = map entry_of (vec_items c.nodes.items)
-
--- A way with the path that stands beside it.
-abbrev pub way_of : WayValue → Names → Way
-way_of (Clear k) t = clear (node_of k t)
-way_of Replaced t = replaced (Some t)
-way_of Lost t = replaced None
-way_of (Stopped c) t = stopped c
+-- What a way came to, with the path that stands beside it: no kind where that path replaces the way's own.
+abbrev pub way_of : Result (Option Kind) Stop → Names → Way
+way_of (Ok (Some k)) t = clear (node_of k t)
+way_of (Ok None) t = replaced (Some t)
+way_of (Err Lost) t = replaced None
+way_of (Err (Cause c)) t = stopped c
 
 -- A kind that was come to, with the path that stands beside it and, of a link, no target.
 abbrev pub kind_at : Node → Kind
@@ -66,3 +50,8 @@ come_to (Err c) p = p
 abbrev pub lost : ℕ → ScanCause
 lost zero = Number 40
 lost (suc left) = NotFound
+
+-- Why a way that was stopped leads nowhere, with so many replacements left.
+abbrev pub stopped_by : Stop → ℕ → ScanCause
+stopped_by Lost left = lost left
+stopped_by (Cause c) left = c

@@ -1,86 +1,74 @@
 // A catalogue as a scanner.
-ghost use Rattle.std.specs.Prelude.{◌≡◌, ℕ, true, false, map, Ok};
-ghost use Rattle.std.specs.Option.{option_map};
+ghost use Rattle.std.specs.Prelude.{◌≡◌, true, false, map, Ok};
 ghost use Rattle.std.specs.List.{slice_get};
-ghost use Rattle.paths.specs.Model.{names, spelling};
-ghost use Rattle.outside.specs.Model.{kind as kind_in, kind_of, canonical as canonical_after, canonical_of, item_of};
+ghost use Rattle.outside.specs.Model.{kind as kind_in, kind_of, canonical as canonical_after, canonical_of};
 ghost use Rattle.catalogue.specs.Nodes.{child_name, children};
 ghost use Rattle.catalogue.specs.Ways.{arrive as arrive_at, followed, classified as classified_in, listed as listed_in};
-ghost use Rattle.catalogue.specs.Model.{nodes, entry_by};
+ghost use Rattle.catalogue.specs.Model.{entry_by};
 ghost use Rattle.catalogue.specs.Arrivals.{no_link};
 
 use crate::node::Kind;
 use crate::tree::Catalogue;
-use outside::{EntryKind, Item, ScanCause, Scanner};
+use outside::{EntryKind, ScanCause, Scanner};
 use paths::{Name, Path};
 
 // The name of a path that is a child of a directory.
 fn child_name(path: &Path, directory: &Path) -> Option<Name>
-    ensures { option_map spelling result ≡ child_name (names path.now) (names directory.now) }
+    ensures { result ≡ child_name path.now directory.now }
 {
-    if path.depth() == 0 {
-        return None;
-    }
+    // "/" is its own parent, and has no name
     if path.parent() == *directory {
-        return path.name();
+        path.name()
+    } else {
+        None
     }
-    None
 }
 
 // What stands at a path that was come to; a link there is not followed further.
 fn entry(kind: Kind, at: &Path, canonical: &mut Path) -> EntryKind
-    ensures value { result ≡ kind_of (entry_by kind (names at.now)) }
-    ensures after { names canonical.new ≡ canonical_of (entry_by kind (names at.now)) (names canonical.old) }
+    ensures value { result ≡ kind_of (entry_by kind at.now) }
+    ensures after { canonical.new ≡ canonical_of (entry_by kind at.now) canonical.old }
 {
-    match kind {
-        Kind::Directory => {
-            *canonical = *at;
-            EntryKind::Directory
-        }
-        Kind::File => EntryKind::Other,
-        Kind::Link => EntryKind::Other,
+    if kind != Kind::Directory {
+        return EntryKind::Other;
     }
+    *canonical = *at;
+    EntryKind::Directory
 }
 
 impl Catalogue {
     // What a path is whose last link is followed.
     fn follow(&self, path: &Path, canonical: &mut Path) -> Result<EntryKind, ScanCause>
-        ensures value { result ≡ kind_in (followed (arrive_at true (nodes self.now) 8 (names path.now))) }
-        ensures after { names canonical.new ≡ canonical_after (followed (arrive_at true (nodes self.now) 8 (names path.now))) (names canonical.old) }
+        ensures value { result ≡ kind_in (followed (arrive_at true self.now 8 path.now)) }
+        ensures after { canonical.new ≡ canonical_after (followed (arrive_at true self.now 8 path.now)) canonical.old }
     {
         let mut at = *path;
         match self.arrive(true, &mut at) {
             Ok(kind) => Ok(entry(kind, &at, canonical)),
-            Err(cause) => match cause {
-                ScanCause::NotFound => Ok(EntryKind::Other),
-                ScanCause::Number(number) => Err(ScanCause::Number(number)),
-            },
+            Err(ScanCause::NotFound) => Ok(EntryKind::Other),
+            Err(cause) => Err(cause),
         }
     }
 
     // The child of that number, from 0, of a directory.
-    fn child(&self, directory: &Path, number: usize) -> Item
-        ensures { item_of result ≡ slice_get (map Ok (children (names directory.now) (nodes self.now))) number }
+    fn child(&self, directory: &Path, number: usize) -> Option<Result<Name, ScanCause>>
+        ensures { result ≡ slice_get (map Ok (children directory.now self.now)) number }
     {
-        let mut left = number;
-        for entry in self.nodes.entries() {
-            if let Some(name) = child_name(&entry.key, directory) {
-                if left == 0 {
-                    return Item::Child(name);
-                }
-                left -= 1;
-            }
-        }
-        Item::End
+        self.nodes
+            .entries()
+            .iter()
+            .filter_map(|entry| child_name(&entry.key, directory))
+            .map(Ok)
+            .nth(number)
     }
 }
 
 impl Scanner for Catalogue {
-    ghost classified = { λ c p follow. classified_in (nodes c) p follow };
+    ghost classified = { classified_in };
 
-    ghost listed = { λ c p. listed_in (nodes c) p };
+    ghost listed = { listed_in };
 
-    ghost followed = { λ c p. no_link (arrive_at false (nodes c) 8 p) (arrive_at true (nodes c) 8 p) };
+    ghost followed = { λ c p. no_link (arrive_at false c 8 p) (arrive_at true c 8 p) };
 
     fn classify(
         &self,
@@ -90,27 +78,21 @@ impl Scanner for Catalogue {
     ) -> Result<EntryKind, ScanCause> {
         let mut at = *path;
         match self.arrive(false, &mut at)? {
-            Kind::Directory => {
-                *canonical = at;
-                Ok(EntryKind::Directory)
-            }
-            Kind::File => Ok(EntryKind::Other),
-            Kind::Link => {
-                if follow {
-                    self.follow(path, canonical)
-                } else {
-                    Ok(EntryKind::NonFollowedSymlink)
-                }
-            }
+            Kind::Link if follow => self.follow(path, canonical),
+            Kind::Link => Ok(EntryKind::NonFollowedSymlink),
+            kind => Ok(entry(kind, &at, canonical)),
         }
     }
 
-    fn item(&self, path: &Path, number: usize) -> Result<Item, ScanCause> {
+    fn item(
+        &self,
+        path: &Path,
+        number: usize,
+    ) -> Result<Option<Result<Name, ScanCause>>, ScanCause> {
         let mut at = *path;
         match self.arrive(true, &mut at)? {
             Kind::Directory => Ok(self.child(&at, number)),
-            Kind::File => Err(ScanCause::Number(20)),
-            Kind::Link => Err(ScanCause::Number(20)),
+            Kind::File | Kind::Link => Err(ScanCause::Number(20)),
         }
     }
 }

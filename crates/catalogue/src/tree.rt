@@ -1,15 +1,19 @@
 // A catalogue of at most 64 nodes, where "/" counts as one, in the order of their paths.
-ghost use Rattle.std.specs.Prelude.{◌≡◌, true};
-ghost use Rattle.paths.specs.Order.{before_path};
-ghost use Rattle.paths.specs.Model.{names};
-ghost use Rattle.tables.specs.Entries.{ascending as ascends};
-
 use crate::node::Node;
 use paths::Path;
+use std::marker::Model;
 use tables::Table;
 
 #[derive(Drop)]
 pub struct Catalogue {
     pub(crate) nodes: Table<Path, Node, 64>,
-    ghost ascending: { ascends (λ p q. before_path (names p) (names q)) nodes.items.items ≡ true },
+}
+
+// Clauses see its nodes.
+impl Model for Catalogue {
+    ghost use Rattle.catalogue.specs.Nodes.{Nodes};
+
+    ghost Value = { Nodes };
+
+    ghost view = { λ c. c.nodes };
 }

@@ -1,89 +1,83 @@
 // The way down from "/" to a path.
-ghost use Rattle.std.specs.Prelude.{◌≡◌, ◌<◌, [], ◌∷◌, length, Some};
-ghost use Rattle.paths.specs.Model.{names};
+ghost use Rattle.std.specs.Prelude.{◌≡◌, Some};
 ghost use Rattle.catalogue.specs.Nodes.{node_at};
-ghost use Rattle.catalogue.specs.Ways.{seen as seen_as, below, replaced, onward as onward_to, passed, way as way_to};
-ghost use Rattle.catalogue.specs.Model.{nodes, way_of};
+ghost use Rattle.catalogue.specs.Ways.{seen as seen_as, below, replaced, passed, way as way_to};
+ghost use Rattle.catalogue.specs.Model.{way_of, stopped_by};
 
 use crate::node::Kind;
 use crate::tree::Catalogue;
 use outside::ScanCause;
 use paths::Path;
 
-// What the way comes to. A link's target, and the path that replaces one with a link on it, stand beside.
+// Why a way ends before its path: a path that breaks the limits, or a cause.
 #[derive(Clone, Copy)]
-pub enum Way {
-    Clear(Kind),
-    Replaced,
+pub enum Stop {
     Lost,
-    Stopped(ScanCause),
+    Cause(ScanCause),
 }
 
-impl Catalogue {
-    fn seen(&self, path: &Path, place: &mut Path) -> Way
-        ensures { way_of result (names place.new) ≡ seen_as (node_at (nodes self.now) (names path.now)) }
+impl Stop {
+    // The cause, with so many replacements left.
+    pub(crate) fn cause(self, left: u8) -> ScanCause
+        ensures { result ≡ stopped_by self left }
     {
-        match self.nodes.get(path) {
-            None => Way::Stopped(ScanCause::NotFound),
-            Some(node) => {
-                *place = node.target;
-                Way::Clear(node.kind)
-            }
+        match self {
+            Stop::Lost if left == 0 => ScanCause::Number(40),
+            Stop::Lost => ScanCause::NotFound,
+            Stop::Cause(cause) => cause,
         }
+    }
+}
+
+// A way comes to the kind of its path's node, or to none where a link replaces the path.
+// No result holds a path: a link's target, or the path that replaces this one, goes into the place that the caller lends.
+impl Catalogue {
+    fn seen(&self, path: &Path, place: &mut Path) -> Result<Option<Kind>, Stop>
+        ensures { way_of result place.new ≡ seen_as (node_at self.now path.now) }
+    {
+        let node = self
+            .nodes
+            .get(path)
+            .ok_or(Stop::Cause(ScanCause::NotFound))?;
+        *place = node.target;
+        Ok(Some(node.kind))
     }
 
     // The path's last name below the path in the place, which it then holds.
-    fn led(path: &Path, place: &mut Path) -> Way
-        ensures { way_of result (names place.new) ≡ replaced (below (names path.now) (Some (names place.old))) }
+    fn led(path: &Path, place: &mut Path) -> Result<Option<Kind>, Stop>
+        ensures { way_of result place.new ≡ replaced (below path.now (Some place.old)) }
     {
-        let Some(name) = path.name() else {
-            return Way::Lost;
-        };
+        let name = path.name().ok_or(Stop::Lost)?;
         let base = *place;
-        match base.join(&name, place) {
-            Ok(()) => Way::Replaced,
-            Err(_) => Way::Lost,
-        }
+        base.join(&name, place).map_err(|_| Stop::Lost)?;
+        Ok(None)
     }
 
-    // One name further down, from the way to the path's parent.
-    fn onward(&self, above: Way, path: &Path, place: &mut Path) -> Way
-        ensures { way_of result (names place.new) ≡ onward_to (nodes self.now) (way_of above (names place.old)) (names path.now) }
-    {
-        match above {
-            Way::Clear(Kind::Directory) => self.seen(path, place),
-            Way::Clear(Kind::File) => Way::Stopped(ScanCause::Number(20)),
-            Way::Clear(Kind::Link) => Catalogue::led(path, place),
-            Way::Replaced => Catalogue::led(path, place),
-            Way::Lost => Way::Lost,
-            Way::Stopped(cause) => Way::Stopped(cause),
-        }
-    }
-
-    pub(crate) fn way(&self, path: &Path, place: &mut Path) -> Way
-        ensures { way_of result (names place.new) ≡ way_to (nodes self.now) (names path.now) }
+    fn way(&self, path: &Path, place: &mut Path) -> Result<Option<Kind>, Stop>
+        ensures { way_of result place.new ≡ way_to self.now path.now }
     {
         if path.depth() == 0 {
             return self.seen(path, place);
         }
-        let parent = path.parent();
-        let above = self.way(&parent, place);
-        self.onward(above, path, place)
+        match self.way(&path.parent(), place)? {
+            Some(Kind::Directory) => self.seen(path, place),
+            Some(Kind::File) => Err(Stop::Cause(ScanCause::Number(20))),
+            Some(Kind::Link) | None => Catalogue::led(path, place),
+        }
     }
 
     // The way, where a link in last place is passed if `last` says so.
-    pub(crate) fn pass(&self, last: bool, path: &Path, place: &mut Path) -> Way
-        ensures { way_of result (names place.new) ≡ passed last (way_to (nodes self.now) (names path.now)) }
+    pub(crate) fn pass(
+        &self,
+        last: bool,
+        path: &Path,
+        place: &mut Path,
+    ) -> Result<Option<Kind>, Stop>
+        ensures { way_of result place.new ≡ passed last (way_to self.now path.now) }
     {
-        match self.way(path, place) {
-            Way::Clear(Kind::Link) => {
-                if last {
-                    Way::Replaced
-                } else {
-                    Way::Clear(Kind::Link)
-                }
-            }
-            way => way,
+        match self.way(path, place)? {
+            Some(Kind::Link) if last => Ok(None),
+            reached => Ok(reached),
         }
     }
 }

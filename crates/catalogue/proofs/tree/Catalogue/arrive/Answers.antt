@@ -1,31 +1,28 @@
-use Rattle.std.proofs.Common.{Ok, Err, sym, ap, ◌∙◌, arith}
-use Rattle.paths.specs.Model.{names}
-use Rattle.catalogue.specs.Model.{nodes, node_of, replied, come_to}
-use Rattle.catalogue.proofs.Turns.{turn_clear, turn_stopped, turn_lost, turn_last, turn_on, kind_node}
+use Rattle.std.proofs.Common.{Ok, Err, sym, ap, ◌∙◌, arith, rules}
+use Rattle.std.proofs.lemmas.Result.{err_from_is_err_and}
+use Rattle.catalogue.specs.Model.{replied, come_to}
+use Rattle.catalogue.specs.Targets.{kind_back}
+use Rattle.catalogue.proofs.Turns.{turn, onward_last, onward_more}
 use Rattle.catalogue.proofs.tree.Catalogue.arrive.Goals as goal
 
-pub returns-in-Clear : goal.returns-in-Clear
-returns-in-Clear c =
-    let e = sym c.turns.invariant ∙ turn_clear c.args.last (nodes c.args.self.now) (names c.turns.place) c.turns.left (node_of c.in-Clear.kind (names c.pass.new.place)) (sym c.in-Clear.ensures) in
-    record {
-      value = sym (ap replied e ∙ ap Ok (kind_node c.in-Clear.kind (names c.pass.new.place)));
-      after = sym (ap (λ a. come_to a (names c.turns.place)) e);
-    }
+pub returns-in_err-kind : goal.returns-in_err-kind
+returns-in_err-kind c =
+    let e = sym c.loop-left.invariant ∙ turn _ _ _ _ c.pass-passed.new.place c.pass-passed.result _ _ (λ s d q. search rules) c.pass-passed.ensures c.map_err.ensures.cases c.in_err-kind.was in
+    let p = err_from_is_err_and c.from_residual.result c.from_residual.ensures.1 in
+    record { value = p.1 ∙ (ap Err p.2 ∙ sym (ap replied e)); after = sym (ap (λ a. come_to a c.loop-left.place) e) }
 
-pub returns-in-Stopped : goal.returns-in-Stopped
-returns-in-Stopped c =
-    let e = sym c.turns.invariant ∙ turn_stopped c.args.last (nodes c.args.self.now) (names c.turns.place) c.turns.left c.in-Stopped.cause (sym c.in-Stopped.ensures) in
-    record { value = sym (ap replied e); after = sym (ap (λ a. come_to a (names c.turns.place)) e) }
+pub returns-in-Some : goal.returns-in-Some
+returns-in-Some c =
+    let e = sym c.loop-left.invariant ∙ turn _ _ _ _ c.pass-passed.new.place c.pass-passed.result _ _ (λ s d q. search rules) c.pass-passed.ensures c.map_err.ensures.cases (c.in_ok-kind.was ∙ ap Ok c.in-Some.is) in
+    record { value = sym (ap replied e ∙ ap Ok (kind_back c.in-Some.kind c.pass-passed.new.place)); after = sym (ap (λ a. come_to a c.loop-left.place) e) }
 
-pub turns-preserved : goal.turns-preserved
-turns-preserved c = sym (turn_on c.args.last (nodes c.args.self.now) (names c.turns.place) c.turns.left (names c.pass.new.place) (omega arith) (sym c.in-Replaced.ensures)) ∙ c.turns.invariant
+pub loop-left-preserved : goal.loop-left-preserved
+loop-left-preserved c =
+    let e = sym c.loop-left.invariant ∙ turn _ _ _ _ c.pass-passed.new.place c.pass-passed.result _ _ (λ s d q. search rules) c.pass-passed.ensures c.map_err.ensures.cases (c.in_ok-kind.was ∙ ap Ok c.in_default.is) in
+    sym (e ∙ onward_more _ _ c.loop-left.left-counter _ (omega arith))
 
-pub returns-in-Lost : goal.returns-in-Lost
-returns-in-Lost c =
-    let e = sym c.turns.invariant ∙ turn_lost c.args.last (nodes c.args.self.now) (names c.turns.place) c.turns.left (sym c.in-Lost.ensures) in
-    record { value = ap Err c.lost.ensures ∙ sym (ap replied e); after = sym (ap (λ a. come_to a (names c.turns.place)) e) }
-
-pub returns-then-left-eq0 : goal.returns-then-left-eq0
-returns-then-left-eq0 c =
-    let e = sym c.turns.invariant ∙ turn_last c.args.last (nodes c.args.self.now) (names c.turns.place) c.turns.left (names c.pass.new.place) c.if-left-eq0.true (sym c.in-Replaced.ensures) in
-    record { value = sym (ap replied e); after = sym (ap (λ a. come_to a (names c.turns.place)) e) }
+pub returns-in_default : goal.returns-in_default
+returns-in_default c =
+    let e = sym c.loop-left.invariant ∙ turn _ _ _ _ c.pass-passed.new.place c.pass-passed.result _ _ (λ s d q. search rules) c.pass-passed.ensures c.map_err.ensures.cases (c.in_ok-kind.was ∙ ap Ok c.in_default.is) in
+    let z = e ∙ onward_last _ _ c.loop-left.left-counter _ (omega arith) in
+    record { value = sym (ap replied z); after = sym (ap (λ a. come_to a c.pass-passed.new.place) z) }

@@ -1,11 +1,6 @@
 use Rattle.std.proofs.Common.{◌≡◌}
-use Rattle.paths.specs.Model.{names}
 use Rattle.catalogue.specs.Ways.{arrive}
-use Rattle.catalogue.specs.Model.{nodes}
 use Rattle.catalogue.proofs.tree.Catalogue.arrive.Given as goal
 
-abbrev pub invariant-turns : goal.invariant-turns
-invariant-turns l = arrive l.last (nodes l.self) l.left (names l.place) ≡ arrive l.last (nodes l.self) 8 (names l.initial.place)
-
-abbrev pub decreases-turns : goal.decreases-turns
-decreases-turns l = l.left
+abbrev pub invariant-loop-left : goal.invariant-loop-left
+invariant-loop-left l = arrive l.last l.self l.left-counter l.place ≡ arrive l.last l.self 8 l.initial.place

@@ -1,9 +1,11 @@
-use Rattle.std.proofs.Common.{not, map, vec_items, ap, ◌∙◌}
+use Rattle.std.proofs.Common.{not, ap, ◌∙◌, rules}
+use Rattle.std.proofs.lemmas.Fn.{always_returns_same}
 use Rattle.paths.specs.Names.{starts_with}
-use Rattle.paths.specs.Model.{names}
-use Rattle.tables.proofs.Views.{map_kept}
-use Rattle.catalogue.specs.Model.{entry_of}
+use borrow.Author.Tests.{tests}
+use Rattle.catalogue.specs.Nodes.{struck}
 use Rattle.catalogue.proofs.tree.Catalogue.strike.Goals as goal
 
 pub returns : goal.returns
-returns c = ap (map entry_of) c.retain.ensures.items ∙ map_kept entry_of (λ e. not (starts_with e.key (names c.args.path.now))) (vec_items c.args.self.now.nodes.items)
+returns c =
+    c.retain.ensures (λ e. not (starts_with e.key c.args.path.now)) (always_returns_same _ _ _ (λ a r s k. search (rules, tests)))
+    ∙ ap (struck c.args.path.now) c.self.view_is
