@@ -1,5 +1,5 @@
 -- The rows of a sheet, and what they answer.
-use Rattle.std.specs.Prelude.{Bool, true, false, List, map, Some, None, Ok, Err, filter, Option, Result}
+use Rattle.std.specs.Prelude.{Bool, true, false, List, map, unwrap_or, Ok, Err, filter, Option, Result}
 use Rattle.paths.specs.Names.{Names, same_path}
 use Rattle.paths.specs.Order.{order_path}
 use Rattle.tables.specs.declared.entry.Entry.{Entry}
@@ -26,8 +26,7 @@ classes false s = s.unfollowed
 
 -- What the row for a question says; where there is none, nothing was found.
 abbrev pub said : {X : Type 0} → Option (Result X ScanCause) → Result X ScanCause
-said None = Err NotFound
-said (Some a) = a
+said o = unwrap_or o (Err NotFound)
 
 -- The classification of a path.
 abbrev pub classified : Rows → Names → Bool → Classified

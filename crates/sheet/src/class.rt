@@ -7,7 +7,8 @@ use outside::{EntryKind, ScanCause};
 use paths::Path;
 use std::marker::Model;
 
-// A kind or a cause, with the canonical path of a directory beside it, since no enum holds a path; where there is no directory, that path is "/".
+// The canonical path of a directory stands beside its kind, since no enum holds a path.
+// Where there is no directory, that path is "/".
 #[derive(Clone, Copy)]
 pub struct Class {
     pub(crate) kind: Result<EntryKind, ScanCause>,
@@ -32,8 +33,8 @@ impl Model for Class {
 }
 
 impl Class {
-    // A kind that no directory's path stands beside.
-    fn at_root(kind: Result<EntryKind, ScanCause>) -> Class
+    // With no canonical path of its own.
+    fn bare(kind: Result<EntryKind, ScanCause>) -> Class
         ensures { result ≡ class_by kind [] }
     {
         Class {
@@ -54,19 +55,19 @@ impl Class {
     pub fn link() -> Class
         ensures { result ≡ Ok symlink }
     {
-        Class::at_root(Ok(EntryKind::NonFollowedSymlink))
+        Class::bare(Ok(EntryKind::NonFollowedSymlink))
     }
 
     pub fn other() -> Class
         ensures { result ≡ Ok other }
     {
-        Class::at_root(Ok(EntryKind::Other))
+        Class::bare(Ok(EntryKind::Other))
     }
 
     pub fn failed(cause: ScanCause) -> Class
         ensures { result ≡ Err cause }
     {
-        Class::at_root(Err(cause))
+        Class::bare(Err(cause))
     }
 
     pub(crate) fn is_link(&self) -> bool

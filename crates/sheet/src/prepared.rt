@@ -8,6 +8,7 @@ use paths::{Name, Path};
 use tables::{Entry, Queue, Table};
 
 // A row stands under the path that it is for. The items of all listings are in one queue, in the order given.
+// There is no `Model` with `Rows` as its `Value`: rows may have a followed link, and the scanner's law is of every `Value`.
 #[derive(Drop)]
 pub struct Sheet {
     pub(crate) followed: Table<Path, Class, 512>,

@@ -17,7 +17,11 @@ impl Sheet {
     fn class(&self, path: &Path, follow: bool) -> Class
         ensures { result ≡ classified_in (rows self.now) path.now follow }
     {
-        let classes = if follow { &self.followed } else { &self.unfollowed };
+        let classes = if follow {
+            &self.followed
+        } else {
+            &self.unfollowed
+        };
         let class = classes.get(path).copied();
         class.unwrap_or(Class::failed(ScanCause::NotFound))
     }
@@ -26,8 +30,10 @@ impl Sheet {
     fn heading(&self, path: &Path) -> Result<(), ScanCause>
         ensures { result ≡ said (held order_path path.now (rows self.now).listings) }
     {
-        let heading = self.listings.get(path).copied();
-        heading.unwrap_or(Err(ScanCause::NotFound))
+        self.listings
+            .get(path)
+            .copied()
+            .unwrap_or(Err(ScanCause::NotFound))
     }
 
     // The item of that number, from 0, for a path.
@@ -59,7 +65,11 @@ impl Scanner for Sheet {
         class.kind
     }
 
-    fn item(&self, path: &Path, number: usize) -> Result<Option<Result<Name, ScanCause>>, ScanCause> {
+    fn item(
+        &self,
+        path: &Path,
+        number: usize,
+    ) -> Result<Option<Result<Name, ScanCause>>, ScanCause> {
         self.heading(path)?;
         Ok(self.item_for(path, number))
     }

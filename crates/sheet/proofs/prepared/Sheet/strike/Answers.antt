@@ -11,7 +11,7 @@ invariant_of-self c =
 
 pub returns : goal.returns
 returns c = same_rows
-  (c.retain.ensures _ (always_returns_same _ _ _ (λ a r f' k. search rules)))
-  (c.retain-2.ensures _ (always_returns_same _ _ _ (λ a r f' k. search rules)))
-  (c.retain-3.ensures _ (always_returns_same _ _ _ (λ a r f' k. search rules)))
-  (c.retain-4.ensures _ (always_returns_same _ _ _ (λ a r f' k. search rules)))
+    (c.retain.ensures _ (always_returns_same _ _ _ (λ a r f' k. search rules)))
+    (c.retain-2.ensures _ (always_returns_same _ _ _ (λ a r f' k. search rules)))
+    (c.retain-3.ensures _ (always_returns_same _ _ _ (λ a r f' k. search rules)))
+    (c.retain-4.ensures _ (always_returns_same _ _ _ (λ a r f' k. search rules)))
