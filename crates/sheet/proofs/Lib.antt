@@ -1,3 +1,1 @@
-pub mod Found
-pub mod Settings
-pub mod Turns
+pub mod Kept

@@ -1,22 +1,32 @@
 -- What a row says of a path.
-use Rattle.std.specs.Prelude.{Bool, true, false, Ok, Err}
+use Rattle.std.specs.Prelude.{◌≡◌, Bool, true, false, [], Ok, Err, Result, refl}
 use Rattle.paths.specs.Names.{Names}
-use Rattle.paths.specs.Model.{names}
+use Rattle.outside.specs.declared.cause.ScanCause.{ScanCause}
+use Rattle.outside.specs.declared.entry.EntryKind.{EntryKind}
+use Rattle.outside.specs.declared.entry.EntryKind.TheVariants.{Directory, NonFollowedSymlink, Other}
 use Rattle.outside.specs.Answers.{Entry, directory, symlink, other, Classified}
-use Rattle.sheet.specs.declared.class.Class.{Class}
-use Rattle.sheet.specs.declared.class.Kind.{Kind}
-use Rattle.sheet.specs.declared.class.Kind.TheVariants.{Directory, Link, Other, Failed}
+use Rattle.outside.specs.Model.{kind, canonical}
 
 -- A kind with the path that stands beside it.
-abbrev pub class_by : Kind → Names → Classified
-class_by Directory p = Ok (directory p)
-class_by Link p = Ok symlink
-class_by Other p = Ok other
-class_by (Failed c) p = Err c
+abbrev pub entry_by : EntryKind → Names → Entry
+entry_by Directory p = directory p
+entry_by NonFollowedSymlink p = symlink
+entry_by Other p = other
 
--- The classification that a value of the code stands for.
-abbrev pub class_of : Class → Classified
-class_of c = class_by c.kind (names c.canonical)
+-- A kind or a cause with that path.
+abbrev pub class_by : Result EntryKind ScanCause → Names → Classified
+class_by (Ok k) p = Ok (entry_by k p)
+class_by (Err c) p = Err c
+
+-- Beside what is no directory stands "/".
+abbrev pub Tidy : Result EntryKind ScanCause → Names → Type 0
+Tidy k p = canonical (class_by k p) [] ≡ p
+
+pub kind_seen : (k : Result EntryKind ScanCause) (p : Names) → kind (class_by k p) ≡ k
+kind_seen (Ok Directory) p = refl
+kind_seen (Ok NonFollowedSymlink) p = refl
+kind_seen (Ok Other) p = refl
+kind_seen (Err c) p = refl
 
 -- An entry that is a link.
 abbrev pub entry_is_link : Entry → Bool

@@ -1,8 +1,8 @@
 -- What the edits of a sheet answer, and what they make of its rows.
 use Rattle.std.specs.Prelude.{ℕ, Bool, true, false, cond, not, ◌&&◌, List, [], ◌∷◌, ◌++◌, Ok, Err, filter, Result}
 use Rattle.paths.specs.Names.{Names, same_path, starts_with}
-use Rattle.paths.specs.Order.{before_path}
-use Rattle.tables.specs.declared.keys.Entry.{Entry}
+use Rattle.paths.specs.Order.{order_path}
+use Rattle.tables.specs.declared.entry.Entry.{Entry}
 use Rattle.tables.specs.declared.full.NoPlace.{NoPlace}
 use Rattle.tables.specs.Entries.{entered}
 use Rattle.tables.specs.Room.{fitted}
@@ -18,7 +18,7 @@ blank = record { followed = []; unfollowed = []; listings = []; items = [] }
 
 -- A row under a path, in place of the one there; of n rows there is no place for one more.
 abbrev pub put : {X : Type 0} → ℕ → Names → X → List (Entry Names X) → Result (Unit {0}) NoPlace × List (Entry Names X)
-put n p x xs = entered same_path before_path n p x xs
+put n p x xs = entered order_path n p x xs
 
 -- Rows with other classifications for a follow mark.
 abbrev pub with_classes : Bool → List (Entry Names Classified) → Rows → Rows

@@ -1,7 +1,8 @@
 -- The rows of a sheet, and what they answer.
-use Rattle.std.specs.Prelude.{Bool, true, false, List, map, Some, None, Ok, Err, filter, Option, Result}
+use Rattle.std.specs.Prelude.{Bool, true, false, List, map, unwrap_or, Ok, Err, filter, Option, Result}
 use Rattle.paths.specs.Names.{Names, same_path}
-use Rattle.tables.specs.declared.keys.Entry.{Entry}
+use Rattle.paths.specs.Order.{order_path}
+use Rattle.tables.specs.declared.entry.Entry.{Entry}
 use Rattle.tables.specs.Entries.{held}
 use Rattle.outside.specs.declared.cause.ScanCause.{ScanCause}
 use Rattle.outside.specs.declared.cause.ScanCause.TheVariants.{NotFound}
@@ -25,12 +26,11 @@ classes false s = s.unfollowed
 
 -- What the row for a question says; where there is none, nothing was found.
 abbrev pub said : {X : Type 0} → Option (Result X ScanCause) → Result X ScanCause
-said None = Err NotFound
-said (Some a) = a
+said o = unwrap_or o (Err NotFound)
 
 -- The classification of a path.
 abbrev pub classified : Rows → Names → Bool → Classified
-classified s p follow = said (held same_path p (classes follow s))
+classified s p follow = said (held order_path p (classes follow s))
 
 -- The items for a path, in the order given.
 abbrev pub items_for : Names → List (Entry Names ListingItem) → List ListingItem
@@ -43,4 +43,4 @@ headed (Err c) is = Err c
 
 -- The listing of a path.
 abbrev pub listed : Rows → Names → Listed
-listed s p = headed (said (held same_path p s.listings)) (items_for p s.items)
+listed s p = headed (said (held order_path p s.listings)) (items_for p s.items)

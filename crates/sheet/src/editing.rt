@@ -1,13 +1,9 @@
 // Making a sheet and changing its rows.
 ghost use Rattle.std.specs.Prelude.{◌≡◌, IfOk, Ok, Err};
-ghost use Rattle.paths.specs.Model.{names};
-ghost use Rattle.sheet.specs.Classes.{class_of};
 ghost use Rattle.sheet.specs.Edits.{blank, classified_as, headed_as, added, struck};
-ghost use Rattle.sheet.specs.Model.{rows, spelt};
+ghost use Rattle.sheet.specs.Model.{rows};
 
-use crate::apart::{Apart, NotAt};
 use crate::class::Class;
-use crate::followed::Followed;
 use crate::prepared::Sheet;
 use crate::refusal::ClassRefusal;
 use outside::ScanCause;
@@ -39,50 +35,50 @@ impl Sheet {
         follow: bool,
         class: Class,
     ) -> Result<(), ClassRefusal>
-        ensures value { result ≡ (classified_as (names path.now) follow (class_of class) (rows self.old)).0 }
-        ensures after { rows self.new ≡ (classified_as (names path.now) follow (class_of class) (rows self.old)).1 }
+        ensures value { result ≡ (classified_as path.now follow class (rows self.old)).0 }
+        ensures after { rows self.new ≡ (classified_as path.now follow class (rows self.old)).1 }
     {
-        if !follow {
-            self.unfollowed.insert(*path, class)?;
-            return Ok(());
-        }
-        if class.is_link() {
+        if follow && class.is_link() {
             return Err(ClassRefusal::FollowedLink);
         }
-        self.followed.insert(*path, Followed { class })?;
+        if follow {
+            self.followed.insert(*path, class)?;
+        } else {
+            self.unfollowed.insert(*path, class)?;
+        }
         Ok(())
     }
 
     // A path has a listing, with no items yet, or a cause in place of one.
     fn head(&mut self, path: &Path, heading: Result<(), ScanCause>) -> Result<(), NoPlace>
-        ensures value { result ≡ (headed_as (names path.now) heading (rows self.old)).0 }
-        ensures after { rows self.new ≡ (headed_as (names path.now) heading (rows self.old)).1 }
+        ensures value { result ≡ (headed_as path.now heading (rows self.old)).0 }
+        ensures after { rows self.new ≡ (headed_as path.now heading (rows self.old)).1 }
     {
         self.listings.insert(*path, heading)?;
-        self.items.retain(&NotAt { path: *path });
+        self.items.retain(|row| row.key != *path);
         Ok(())
     }
 
     // Sets a listing with no items yet, in place of what was set.
     pub fn list(&mut self, path: &Path) -> Result<(), NoPlace>
-        ensures value { result ≡ (headed_as (names path.now) (Ok tt) (rows self.old)).0 }
-        ensures after { rows self.new ≡ (headed_as (names path.now) (Ok tt) (rows self.old)).1 }
+        ensures value { result ≡ (headed_as path.now (Ok tt) (rows self.old)).0 }
+        ensures after { rows self.new ≡ (headed_as path.now (Ok tt) (rows self.old)).1 }
     {
         self.head(path, Ok(()))
     }
 
     // Sets a cause as the listing, in place of what was set.
     pub fn unlist(&mut self, path: &Path, cause: ScanCause) -> Result<(), NoPlace>
-        ensures value { result ≡ (headed_as (names path.now) (Err cause) (rows self.old)).0 }
-        ensures after { rows self.new ≡ (headed_as (names path.now) (Err cause) (rows self.old)).1 }
+        ensures value { result ≡ (headed_as path.now (Err cause) (rows self.old)).0 }
+        ensures after { rows self.new ≡ (headed_as path.now (Err cause) (rows self.old)).1 }
     {
         self.head(path, Err(cause))
     }
 
     // One more item for a path, behind those that it has. It shows only in a listing that stands already.
     pub fn add(&mut self, path: &Path, item: Result<Name, ScanCause>) -> Result<(), NoPlace>
-        ensures value { result ≡ (added (names path.now) (spelt item) (rows self.old)).0 }
-        ensures after { rows self.new ≡ (added (names path.now) (spelt item) (rows self.old)).1 }
+        ensures value { result ≡ (added path.now item (rows self.old)).0 }
+        ensures after { rows self.new ≡ (added path.now item (rows self.old)).1 }
     {
         self.items.push_back(Entry {
             key: *path,
@@ -92,12 +88,11 @@ impl Sheet {
 
     // Removes the rows at a path and below it.
     pub fn strike(&mut self, path: &Path)
-        ensures { rows self.new ≡ struck (names path.now) (rows self.old) }
+        ensures { rows self.new ≡ struck path.now (rows self.old) }
     {
-        let apart = Apart { path: *path };
-        self.followed.retain(&apart);
-        self.unfollowed.retain(&apart);
-        self.listings.retain(&apart);
-        self.items.retain(&apart);
+        self.followed.retain(|row| !row.key.starts_with(path));
+        self.unfollowed.retain(|row| !row.key.starts_with(path));
+        self.listings.retain(|row| !row.key.starts_with(path));
+        self.items.retain(|row| !row.key.starts_with(path));
     }
 }

@@ -1,10 +1,8 @@
 // A sheet of prepared answers, as a scanner.
 #![tactic(auto)]
 
-mod apart;
 pub mod class;
 pub mod editing;
-pub mod followed;
 pub mod prepared;
 pub mod refusal;
 pub mod scanning;

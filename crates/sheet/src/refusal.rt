@@ -5,7 +5,7 @@ ghost use Rattle.sheet.specs.declared.refusal.ClassRefusal.TheVariants.{Full};
 use tables::NoPlace;
 
 // A scanner never answers that a path is a link when it follows links.
-#[derive(Clone, Copy)]
+#[derive(Clone, Copy, Debug, PartialEq, Eq)]
 pub enum ClassRefusal {
     Full,
     FollowedLink,

@@ -1,17 +1,17 @@
-use Rattle.std.proofs.Common.{not, map, vec_items, ap, ◌∙◌}
+use Rattle.std.proofs.Common.{rules, not}
+use Rattle.std.proofs.lemmas.Fn.{always_returns_same}
 use Rattle.paths.specs.Names.{starts_with}
-use Rattle.paths.specs.Model.{names}
-use Rattle.tables.specs.Entries.{viewed}
-use Rattle.tables.proofs.Views.{map_kept}
-use Rattle.sheet.specs.Classes.{class_of}
-use Rattle.sheet.specs.Model.{spelt}
-use Rattle.sheet.proofs.Settings.{same_rows}
+use Rattle.sheet.proofs.Kept.{kept_unlinked, same_rows}
 use Rattle.sheet.proofs.prepared.Sheet.strike.Goals as goal
 
+pub invariant_of-self : goal.invariant_of-self
+invariant_of-self c =
+    let f = c.retain.ensures (λ e. not (starts_with e.key c.args.path.now)) (always_returns_same _ _ _ (λ a r f' k. search rules)) in
+    record { no_links = rw f (kept_unlinked (λ e. not (starts_with e.key c.args.path.now)) c.args.self.now.followed c.args.self.now.no_links) }
+
 pub returns : goal.returns
-returns c =
-    same_rows
-    (ap (map (viewed names (λ f. class_of f.class))) c.retain.ensures.items ∙ map_kept (viewed names (λ f. class_of f.class)) (λ e. not (starts_with e.key (names c.args.path.now))) (vec_items c.args.self.now.followed.items))
-    (ap (map (viewed names class_of)) c.retain-2.ensures.items ∙ map_kept (viewed names class_of) (λ e. not (starts_with e.key (names c.args.path.now))) (vec_items c.args.self.now.unfollowed.items))
-    (ap (map (viewed names (λ h. h))) c.retain-3.ensures.items ∙ map_kept (viewed names (λ h. h)) (λ e. not (starts_with e.key (names c.args.path.now))) (vec_items c.args.self.now.listings.items))
-    (ap (map (viewed names spelt)) c.retain-4.ensures ∙ map_kept (viewed names spelt) (λ e. not (starts_with e.key (names c.args.path.now))) (vec_items c.args.self.now.items.items))
+returns c = same_rows
+    (c.retain.ensures _ (always_returns_same _ _ _ (λ a r f' k. search rules)))
+    (c.retain-2.ensures _ (always_returns_same _ _ _ (λ a r f' k. search rules)))
+    (c.retain-3.ensures _ (always_returns_same _ _ _ (λ a r f' k. search rules)))
+    (c.retain-4.ensures _ (always_returns_same _ _ _ (λ a r f' k. search rules)))
