@@ -1,1 +1,3 @@
+pub mod Args
 pub mod Commands
+pub mod Ends

@@ -1,75 +1,68 @@
 // The commands that set the backend up.
 use crate::args::{Args, read_path};
-use crate::causes::read_backend_cause;
+use crate::causes::read_answer;
 use crate::commands::BackendCommand;
 use crate::ends::AnyBackend;
 use crate::world::World;
 use crate::wrong::Wrong;
 use paths::Path;
-use simulated::{Board, BoardError, Prepared, Roll};
+use simulated::{Board, Prepared, Roll};
 
-pub fn backend_command(
-    world: &mut World,
-    command: BackendCommand,
-    args: &mut Args<'_>,
-) -> Result<(), Wrong> {
-    match command {
-        BackendCommand::Board => board(world, args),
-        BackendCommand::Roll => roll(world, args),
-        BackendCommand::Answer => answer(world, args),
-    }
-}
-
-fn board(world: &mut World, args: &mut Args<'_>) -> Result<(), Wrong> {
-    let slots = args.number(1000)?;
-    args.end()?;
-    if !world.backend.is_none() {
-        return Err(Wrong::SecondBackend);
-    }
-    match Board::new(world.heap, slots as usize) {
-        Ok(board) => {
-            world.backend = AnyBackend::Board(board);
-            Ok(())
+impl World {
+    pub fn backend_command(
+        &mut self,
+        command: BackendCommand,
+        args: &mut Args<'_>,
+    ) -> Result<(), Wrong> {
+        match command {
+            BackendCommand::Board => self.board(args),
+            BackendCommand::Roll => self.roll(args),
+            BackendCommand::Answer => self.prepare(args),
         }
-        Err(BoardError::Slots) => Err(Wrong::Slots),
-        Err(BoardError::NoMemory) => Err(Wrong::NoMemory),
     }
-}
 
-fn roll(world: &mut World, args: &mut Args<'_>) -> Result<(), Wrong> {
-    args.end()?;
-    if !world.backend.is_none() {
-        return Err(Wrong::SecondBackend);
+    fn board(&mut self, args: &mut Args<'_>) -> Result<(), Wrong> {
+        let slots = args.number(1000)?;
+        args.end()?;
+        if self.backend.is_some() {
+            return Err(Wrong::SecondBackend);
+        }
+        let board = Board::new(self.heap, slots as usize)?;
+        self.backend = Some(AnyBackend::Board(board));
+        Ok(())
     }
-    world.backend = AnyBackend::Roll(Roll::new(world.heap)?);
-    Ok(())
-}
 
-fn answer(world: &mut World, args: &mut Args<'_>) -> Result<(), Wrong> {
-    let prepared = prepared(world, args)?;
-    let AnyBackend::Roll(roll) = &mut world.backend else {
-        return Err(Wrong::NoRoll);
-    };
-    match roll.prepare(prepared) {
-        Ok(()) => Ok(()),
-        Err(_) => Err(Wrong::FullRoll),
+    fn roll(&mut self, args: &mut Args<'_>) -> Result<(), Wrong> {
+        args.end()?;
+        if self.backend.is_some() {
+            return Err(Wrong::SecondBackend);
+        }
+        self.backend = Some(AnyBackend::Roll(Roll::new(self.heap)?));
+        Ok(())
     }
-}
 
-// `done`, a cause, or a cause and the path that it carries.
-fn prepared(world: &World, args: &mut Args<'_>) -> Result<Prepared, Wrong> {
-    let cause = read_backend_cause(args.word()?)?;
-    let Some(word) = args.next()? else {
-        return Ok(match cause {
-            None => Prepared::done(),
-            Some(cause) => Prepared::failed(cause),
-        });
-    };
-    let Some(cause) = cause else {
-        return Err(Wrong::DonePath);
-    };
-    let mut path = Path::root();
-    read_path(world.heap, word, &mut path)?;
-    args.end()?;
-    Ok(Prepared::failed_at(cause, &path))
+    fn prepare(&mut self, args: &mut Args<'_>) -> Result<(), Wrong> {
+        let prepared = self.prepared(args)?;
+        let Some(AnyBackend::Roll(roll)) = &mut self.backend else {
+            return Err(Wrong::NoRoll);
+        };
+        roll.prepare(prepared).map_err(|_| Wrong::FullRoll)
+    }
+
+    // `done`, a cause, or a cause and the path that it carries.
+    fn prepared(&self, args: &mut Args<'_>) -> Result<Prepared, Wrong> {
+        let answer = read_answer(args.word()?)?;
+        let word = args.next()?;
+        match (answer, word) {
+            (Ok(()), None) => Ok(Prepared::done()),
+            (Ok(()), Some(_)) => Err(Wrong::DonePath),
+            (Err(cause), None) => Ok(Prepared::failed(cause)),
+            (Err(cause), Some(word)) => {
+                let mut path = Path::root();
+                read_path(self.heap, word, &mut path)?;
+                args.end()?;
+                Ok(Prepared::failed_at(cause, &path))
+            }
+        }
+    }
 }

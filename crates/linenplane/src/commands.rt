@@ -1,8 +1,20 @@
 // The words that begin a line.
-ghost use Rattle.std.specs.Prelude.{◌≡◌};
-ghost use Rattle.linenplane.specs.Commands.{backend_word, scanner_word, row_word, filter_word, question_word};
+ghost use Rattle.std.specs.Prelude.{◌≡◌, map, ok_or};
+ghost use Rattle.linenplane.specs.Commands.{beside, command};
+ghost use Rattle.linenplane.specs.declared.wrong.Wrong.TheVariants.{Unknown};
 
-use scenario::is_word;
+use crate::wrong::Wrong;
+
+#[derive(Clone, Copy)]
+pub enum Command {
+    Scenario,
+    Backend(BackendCommand),
+    Scanner(ScannerCommand),
+    Filter(FilterCommand),
+    Ask(Question),
+    // A call of the recursor.
+    Call,
+}
 
 #[derive(Clone, Copy)]
 pub enum BackendCommand {
@@ -42,123 +54,56 @@ pub enum Question {
     Verdict,
 }
 
-pub fn backend_word(word: &[u8]) -> Option<BackendCommand>
-    ensures { result ≡ backend_word word.now }
+impl TryFrom<&[u8]> for Command {
+    type Error = Wrong;
+
+    ghost try_from_gives = { λ word r. r ≡ ok_or (command word.now) Unknown };
+
+    fn try_from(word: &[u8]) -> Result<Command, Wrong> {
+        beside(&COMMANDS, word).ok_or(Wrong::Unknown)
+    }
+}
+
+// What stands beside that word in a table.
+fn beside(table: &[(&[u8], Command)], word: &[u8]) -> Option<Command>
+    ensures { result ≡ beside word.now (map (λ r. (r.0.now, r.1)) table.now) }
 {
-    if is_word(word, b"board") {
-        return Some(BackendCommand::Board);
-    }
-    if is_word(word, b"roll") {
-        return Some(BackendCommand::Roll);
-    }
-    if is_word(word, b"answer") {
-        return Some(BackendCommand::Answer);
-    }
-    None
+    table.iter().find(|row| word == row.0).map(|row| row.1)
 }
 
-pub fn scanner_word(word: &[u8]) -> Option<ScannerCommand>
-    ensures { result ≡ scanner_word word.now }
-{
-    if is_word(word, b"catalogue") {
-        return Some(ScannerCommand::Catalogue);
-    }
-    if is_word(word, b"sheet") {
-        return Some(ScannerCommand::Sheet);
-    }
-    if is_word(word, b"dir") {
-        return Some(ScannerCommand::Dir);
-    }
-    if is_word(word, b"file") {
-        return Some(ScannerCommand::File);
-    }
-    if is_word(word, b"link") {
-        return Some(ScannerCommand::Link);
-    }
-    if is_word(word, b"strike") {
-        return Some(ScannerCommand::Strike);
-    }
-    row_word(word)
-}
-
-// The commands for the rows of a sheet.
-fn row_word(word: &[u8]) -> Option<ScannerCommand>
-    ensures { result ≡ row_word word.now }
-{
-    if is_word(word, b"class") {
-        return Some(ScannerCommand::Class);
-    }
-    if is_word(word, b"list") {
-        return Some(ScannerCommand::List);
-    }
-    if is_word(word, b"unlist") {
-        return Some(ScannerCommand::Unlist);
-    }
-    None
-}
-
-pub fn filter_word(word: &[u8]) -> Option<FilterCommand>
-    ensures { result ≡ filter_word word.now }
-{
-    if is_word(word, b"filter") {
-        return Some(FilterCommand::Filter);
-    }
-    if is_word(word, b"deny") {
-        return Some(FilterCommand::Deny);
-    }
-    if is_word(word, b"balk") {
-        return Some(FilterCommand::Balk);
-    }
-    if is_word(word, b"faults") {
-        return Some(FilterCommand::Faults);
-    }
-    None
-}
-
-pub fn question_word(word: &[u8]) -> Option<Question>
-    ensures { result ≡ question_word word.now }
-{
-    if is_word(word, b"look") {
-        return Some(Question::Look);
-    }
-    if is_word(word, b"items") {
-        return Some(Question::Items);
-    }
-    if is_word(word, b"watch") {
-        return Some(Question::Watch);
-    }
-    if is_word(word, b"unwatch") {
-        return Some(Question::Unwatch);
-    }
-    if is_word(word, b"fill") {
-        return Some(Question::Fill);
-    }
-    if is_word(word, b"verdict") {
-        return Some(Question::Verdict);
-    }
-    None
-}
-
-// Whether a word begins a call of the recursor.
-pub fn is_call(word: &[u8]) -> bool {
-    for call in CALLS {
-        if is_word(word, call) {
-            return true;
-        }
-    }
-    false
-}
-
-const CALLS: [&[u8]; 11] = [
-    b"open",
-    b"reconcile",
-    b"created",
-    b"removed",
-    b"doubtful",
-    b"renamed",
-    b"step",
-    b"run",
-    b"public",
-    b"close",
-    b"show",
+const COMMANDS: [(&[u8], Command); 34] = [
+    (b"scenario", Command::Scenario),
+    (b"board", Command::Backend(BackendCommand::Board)),
+    (b"roll", Command::Backend(BackendCommand::Roll)),
+    (b"answer", Command::Backend(BackendCommand::Answer)),
+    (b"catalogue", Command::Scanner(ScannerCommand::Catalogue)),
+    (b"sheet", Command::Scanner(ScannerCommand::Sheet)),
+    (b"dir", Command::Scanner(ScannerCommand::Dir)),
+    (b"file", Command::Scanner(ScannerCommand::File)),
+    (b"link", Command::Scanner(ScannerCommand::Link)),
+    (b"strike", Command::Scanner(ScannerCommand::Strike)),
+    (b"class", Command::Scanner(ScannerCommand::Class)),
+    (b"list", Command::Scanner(ScannerCommand::List)),
+    (b"unlist", Command::Scanner(ScannerCommand::Unlist)),
+    (b"filter", Command::Filter(FilterCommand::Filter)),
+    (b"deny", Command::Filter(FilterCommand::Deny)),
+    (b"balk", Command::Filter(FilterCommand::Balk)),
+    (b"faults", Command::Filter(FilterCommand::Faults)),
+    (b"look", Command::Ask(Question::Look)),
+    (b"items", Command::Ask(Question::Items)),
+    (b"watch", Command::Ask(Question::Watch)),
+    (b"unwatch", Command::Ask(Question::Unwatch)),
+    (b"fill", Command::Ask(Question::Fill)),
+    (b"verdict", Command::Ask(Question::Verdict)),
+    (b"open", Command::Call),
+    (b"reconcile", Command::Call),
+    (b"created", Command::Call),
+    (b"removed", Command::Call),
+    (b"doubtful", Command::Call),
+    (b"renamed", Command::Call),
+    (b"step", Command::Call),
+    (b"run", Command::Call),
+    (b"public", Command::Call),
+    (b"close", Command::Call),
+    (b"show", Command::Call),
 ];

@@ -4,42 +4,53 @@ use crate::commands::FilterCommand;
 use crate::rules::Rules;
 use crate::world::World;
 use crate::wrong::Wrong;
+use std::alloc::AllocError;
 
-pub fn filter_command(
-    world: &mut World,
-    command: FilterCommand,
-    args: &mut Args<'_>,
-) -> Result<(), Wrong> {
-    match command {
-        FilterCommand::Filter => filter(world, args),
-        FilterCommand::Deny => deny(world, args),
-        FilterCommand::Balk => balk(world, args),
-        FilterCommand::Faults => faults(world, args),
+impl World {
+    pub fn filter_command(
+        &mut self,
+        command: FilterCommand,
+        args: &mut Args<'_>,
+    ) -> Result<(), Wrong> {
+        match command {
+            FilterCommand::Filter => self.filter(args),
+            FilterCommand::Deny => self.deny(args),
+            FilterCommand::Balk => self.balk(args),
+            FilterCommand::Faults => self.faults(args),
+        }
     }
-}
 
-fn filter(world: &mut World, args: &mut Args<'_>) -> Result<(), Wrong> {
-    args.end()?;
-    world.rules = Rules::new(world.heap)?;
-    Ok(())
-}
+    fn filter(&mut self, args: &mut Args<'_>) -> Result<(), Wrong> {
+        args.end()?;
+        self.rules = None;
+        Ok(())
+    }
 
-fn deny(world: &mut World, args: &mut Args<'_>) -> Result<(), Wrong> {
-    let name = args.name(world.heap)?;
-    args.end()?;
-    world.rules.deny(&name)
-}
+    fn deny(&mut self, args: &mut Args<'_>) -> Result<(), Wrong> {
+        let name = args.name()?;
+        args.end()?;
+        self.named_rules()?.deny(&name)
+    }
 
-fn balk(world: &mut World, args: &mut Args<'_>) -> Result<(), Wrong> {
-    let name = args.name(world.heap)?;
-    let number = args.number(65535)?;
-    args.end()?;
-    world.rules.balk(&name, number as u16)
-}
+    fn balk(&mut self, args: &mut Args<'_>) -> Result<(), Wrong> {
+        let name = args.name()?;
+        let number = args.number(u64::from(u16::MAX))?;
+        args.end()?;
+        self.named_rules()?.balk(&name, number as u16)
+    }
 
-fn faults(world: &mut World, args: &mut Args<'_>) -> Result<(), Wrong> {
-    let places = args.number(65536)?;
-    args.end()?;
-    world.places = places;
-    Ok(())
+    // The rules, made where the first name is set.
+    fn named_rules(&mut self) -> Result<&mut Rules, AllocError> {
+        if self.rules.is_none() {
+            self.rules = Some(Rules::new(self.heap)?);
+        }
+        Ok(self.rules.as_mut().unwrap())
+    }
+
+    fn faults(&mut self, args: &mut Args<'_>) -> Result<(), Wrong> {
+        let places = args.number(65536)?;
+        args.end()?;
+        self.places = places;
+        Ok(())
+    }
 }

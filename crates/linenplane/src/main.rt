@@ -7,6 +7,7 @@ mod causes;
 mod commands;
 mod ends;
 mod filters;
+mod printable;
 mod questions;
 mod rules;
 mod scanners;
@@ -22,13 +23,11 @@ fn main(rt: HostRuntime) -> io::Result<()> {
     let heap = rt.alloc();
     let mut session = Session::new(heap)?;
     let mut output = BufWriter::new(heap, rt.stdout())?;
-    let mut number: u64 = 0;
     let mut out = String::new(heap);
-    for line in BufReader::new(heap, rt.stdin())?.split(heap, b'\n') {
-        let line = line?;
-        number = number.saturating_add(1);
+    let lines = BufReader::new(heap, rt.stdin())?.split(heap, b'\n');
+    for (number, line) in (1..=u64::MAX).zip(lines) {
         out.clear();
-        session.line(number, &line, &mut out)?;
+        session.line(number, &line?, &mut out)?;
         output.write_all(out.as_bytes())?;
     }
     output.flush()

@@ -1,30 +1,114 @@
 // The direct questions: what the outside answers, with no recursor between.
 use crate::args::Args;
-use crate::causes::{write_entry, write_numbered, write_request, write_scan_cause, write_verdict};
+use crate::causes::{write_entry, write_request, write_verdict};
 use crate::commands::Question;
+use crate::ends::AnyBackend;
 use crate::world::World;
 use crate::wrong::Wrong;
-use outside::{Carried, Item, ScanCause};
+use outside::{Backend, BackendCause, Carried, Filterer, Item, Scanner};
 use paths::{Name, Path, absolute};
 use scenario::encode;
 use std::alloc::AllocError;
+use std::fmt::Write;
 
 // More items than any scanner of ours lists.
 const MOST_ITEMS: usize = 4096;
 
-pub fn answer(
-    world: &mut World,
-    question: Question,
-    args: &mut Args<'_>,
-    out: &mut String,
-) -> Result<(), Wrong> {
-    match question {
-        Question::Look => look(world, args, out),
-        Question::Items => items(world, args, out),
-        Question::Watch => request(world, args, out, true),
-        Question::Unwatch => request(world, args, out, false),
-        Question::Fill => fill(world, args, out),
-        Question::Verdict => verdict(world, args, out),
+impl World {
+    pub fn answer(
+        &mut self,
+        question: Question,
+        args: &mut Args<'_>,
+        out: &mut String,
+    ) -> Result<(), Wrong> {
+        match question {
+            Question::Look => self.look(args, out),
+            Question::Items => self.items(args, out),
+            Question::Watch => self.request(args, out, "watch", AnyBackend::watch),
+            Question::Unwatch => self.request(args, out, "unwatch", AnyBackend::unwatch),
+            Question::Fill => self.fill(args, out),
+            Question::Verdict => self.verdict(args, out),
+        }
+    }
+
+    fn look(&self, args: &mut Args<'_>, out: &mut String) -> Result<(), Wrong> {
+        let text = args.text()?;
+        let follow = args.follow()?;
+        args.end()?;
+        let mut path = Path::root();
+        if takes(&text, &mut path, out)? {
+            let mut canonical = Path::root();
+            let entry = self.scanner.classify(&path, follow, &mut canonical);
+            write_entry(out, entry, &canonical)?;
+        }
+        Ok(())
+    }
+
+    fn items(&self, args: &mut Args<'_>, out: &mut String) -> Result<(), Wrong> {
+        let text = args.text()?;
+        args.end()?;
+        let mut path = Path::root();
+        if takes(&text, &mut path, out)? {
+            self.write_items(&path, out)?;
+        }
+        Ok(())
+    }
+
+    // The items of a listing, one by one, and their number; or why there is no listing.
+    fn write_items(&self, path: &Path, out: &mut String) -> Result<(), AllocError> {
+        for number in 0..MOST_ITEMS {
+            match self.scanner.item(path, number) {
+                Ok(Item::Child(name)) => write_name(out, &name)?,
+                Ok(Item::Failed(cause)) => writeln!(out, "cause {cause}")?,
+                Ok(Item::End) => return writeln!(out, "items {number}"),
+                Err(cause) => return writeln!(out, "{cause}"),
+            }
+        }
+        Ok(())
+    }
+
+    fn request<F>(
+        &mut self,
+        args: &mut Args<'_>,
+        out: &mut String,
+        verb: &str,
+        ask: F,
+    ) -> Result<(), Wrong>
+    where
+        F: FnOnce(&mut AnyBackend, &Path, &mut Carried) -> Result<(), BackendCause>,
+        requires { F.IsAlwaysCallable ask }
+    {
+        let text = args.text()?;
+        args.end()?;
+        let mut path = Path::root();
+        if takes(&text, &mut path, out)? {
+            let backend = self.backend.as_mut().ok_or(Wrong::NoBackend)?;
+            let mut carried = Carried::nothing();
+            let answer = ask(backend, &path, &mut carried);
+            write_request(out, verb, &path, answer, &carried)?;
+        }
+        Ok(())
+    }
+
+    fn fill(&self, args: &mut Args<'_>, out: &mut String) -> Result<(), Wrong> {
+        args.end()?;
+        let backend = self.backend.as_ref().ok_or(Wrong::NoBackend)?;
+        let fill = backend.fill()?;
+        Ok(writeln!(out, "fill {fill}")?)
+    }
+
+    fn verdict(&self, args: &mut Args<'_>, out: &mut String) -> Result<(), Wrong> {
+        let text = args.text()?;
+        args.end()?;
+        let mut path = Path::root();
+        if takes(&text, &mut path, out)? {
+            let verdict = match &self.rules {
+                Some(rules) => rules.verdict(&path),
+                None => ().check_dir(&path),
+            };
+            write_verdict(out, verdict)?;
+        }
+        Ok(())
     }
 }
 
@@ -33,105 +117,12 @@ fn takes(text: &[u8], place: &mut Path, out: &mut String) -> Result<bool, AllocE
     let Err(refusal) = absolute(&Path::root(), text, place) else {
         return Ok(true);
     };
-    write_numbered(out, "refused ", u64::from(refusal.number()))?;
-    out.push('\n')?;
+    writeln!(out, "refused {}", refusal.number())?;
     Ok(false)
-}
-
-fn look(world: &World, args: &mut Args<'_>, out: &mut String) -> Result<(), Wrong> {
-    let text = args.text(world.heap)?;
-    let follow = args.follow()?;
-    args.end()?;
-    let mut path = Path::root();
-    if takes(&text, &mut path, out)? {
-        let mut canonical = Path::root();
-        let entry = world.scanner.classify(&path, follow, &mut canonical);
-        write_entry(out, entry, &canonical)?;
-    }
-    Ok(())
-}
-
-fn items(world: &World, args: &mut Args<'_>, out: &mut String) -> Result<(), Wrong> {
-    let text = args.text(world.heap)?;
-    args.end()?;
-    let mut path = Path::root();
-    if takes(&text, &mut path, out)? {
-        list(world, &path, out)?;
-    }
-    Ok(())
-}
-
-// The items of a listing, one by one, and their number; or why there is no listing.
-fn list(world: &World, path: &Path, out: &mut String) -> Result<(), AllocError> {
-    for number in 0..MOST_ITEMS {
-        let item = match world.scanner.item(path, number) {
-            Ok(item) => item,
-            Err(cause) => {
-                write_scan_cause(out, cause)?;
-                return out.push('\n');
-            }
-        };
-        match item {
-            Item::Child(name) => write_name(out, &name)?,
-            Item::Failed(cause) => write_failure(out, cause)?,
-            Item::End => {
-                write_numbered(out, "items ", number as u64)?;
-                return out.push('\n');
-            }
-        }
-    }
-    Ok(())
 }
 
 fn write_name(out: &mut String, name: &Name) -> Result<(), AllocError> {
     out.push_str("item ")?;
     encode(out, name.bytes())?;
     out.push('\n')
-}
-
-fn write_failure(out: &mut String, cause: ScanCause) -> Result<(), AllocError> {
-    out.push_str("cause ")?;
-    write_scan_cause(out, cause)?;
-    out.push('\n')
-}
-
-fn request(
-    world: &mut World,
-    args: &mut Args<'_>,
-    out: &mut String,
-    watch: bool,
-) -> Result<(), Wrong> {
-    let text = args.text(world.heap)?;
-    args.end()?;
-    let mut path = Path::root();
-    if !takes(&text, &mut path, out)? {
-        return Ok(());
-    }
-    let mut carried = Carried::nothing();
-    if watch {
-        let answer = world.backend.watch(&path, &mut carried)?;
-        write_request(out, "watch", &path, answer, &carried)?;
-    } else {
-        let answer = world.backend.unwatch(&path, &mut carried)?;
-        write_request(out, "unwatch", &path, answer, &carried)?;
-    }
-    Ok(())
-}
-
-fn fill(world: &World, args: &mut Args<'_>, out: &mut String) -> Result<(), Wrong> {
-    args.end()?;
-    let fill = world.backend.fill()?;
-    write_numbered(out, "fill ", fill as u64)?;
-    out.push('\n')?;
-    Ok(())
-}
-
-fn verdict(world: &World, args: &mut Args<'_>, out: &mut String) -> Result<(), Wrong> {
-    let text = args.text(world.heap)?;
-    args.end()?;
-    let mut path = Path::root();
-    if takes(&text, &mut path, out)? {
-        write_verdict(out, world.rules.verdict(&path))?;
-    }
-    Ok(())
 }

@@ -5,6 +5,9 @@ use paths::{Name, Path};
 use simulated::NameFilter;
 use std::alloc::{AllocError, Global};
 
+// As many as a name filter has room for.
+const MOST_BALKS: usize = 16;
+
 #[derive(Clone, Copy)]
 pub struct Balk {
     name: Name,
@@ -14,8 +17,6 @@ pub struct Balk {
 // A name has one answer: that of the line that came last.
 #[derive(Drop)]
 pub struct Rules {
-    // No line named anything yet.
-    all: bool,
     denied: NameFilter,
     balks: Vec<Balk>,
 }
@@ -25,62 +26,41 @@ impl Rules {
     pub fn new(heap: Global) -> Result<Rules, AllocError> {
         let denied = NameFilter::new(heap)?;
         Ok(Rules {
-            all: true,
             denied,
             balks: Vec::new(heap),
         })
     }
 
     pub fn deny(&mut self, name: &Name) -> Result<(), Wrong> {
-        self.all = false;
-        match self.denied.refuse(name) {
-            Ok(()) => {
-                self.forget(name);
-                Ok(())
-            }
-            Err(_) => Err(Wrong::FullFilter),
-        }
+        self.denied.refuse(name).map_err(|_| Wrong::FullFilter)?;
+        self.forget(name);
+        Ok(())
     }
 
     pub fn balk(&mut self, name: &Name, number: u16) -> Result<(), Wrong> {
-        self.all = false;
         self.forget(name);
-        if self.balks.len() >= 16 {
+        if self.balks.len() >= MOST_BALKS {
             return Err(Wrong::FullFilter);
         }
-        match self.balks.push(Balk {
+        let balk = Balk {
             name: *name,
             number,
-        }) {
-            Ok(()) => Ok(()),
-            Err(_) => Err(Wrong::NoMemory),
-        }
+        };
+        self.balks.push(balk).map_err(|_| Wrong::NoMemory)
     }
 
     fn forget(&mut self, name: &Name) {
-        let mut i = 0;
-        while i < self.balks.len() {
-            if self.balks[i].name.bytes() == name.bytes() {
-                let _ = self.balks.remove(i);
-                return;
-            }
-            i += 1;
-        }
+        self.balks.retain(|balk| balk.name.bytes() != name.bytes());
     }
 
     fn balked(&self, name: &Name) -> Option<u16> {
-        for balk in self.balks.as_slice() {
-            if balk.name.bytes() == name.bytes() {
-                return Some(balk.number);
-            }
-        }
-        None
+        self.balks
+            .iter()
+            .find(|balk| balk.name.bytes() == name.bytes())
+            .map(|balk| balk.number)
     }
 
     pub fn verdict(&self, path: &Path) -> Result<bool, FilterFault> {
-        if self.all {
-            return ().check_dir(path);
-        }
         if let Some(name) = path.name() {
             if let Some(number) = self.balked(&name) {
                 return Err(FilterFault(number));

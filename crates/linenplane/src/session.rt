@@ -1,13 +1,10 @@
 // One run of the program: scenarios, line by line.
 use crate::args::Args;
-use crate::backends::backend_command;
-use crate::commands::{Question, backend_word, filter_word, is_call, question_word, scanner_word};
-use crate::filters::filter_command;
-use crate::questions::answer;
-use crate::scanners::scanner_command;
+use crate::commands::{Command, Question};
+use crate::printable::Printable;
 use crate::world::World;
 use crate::wrong::Wrong;
-use scenario::{is_blank, is_word};
+use scenario::is_blank;
 use std::alloc::{AllocError, Global};
 use std::fmt::Write;
 
@@ -32,38 +29,27 @@ impl Session {
         if is_blank(line) {
             return Ok(());
         }
-        let mut args = Args::new(line);
+        let mut args = Args::new(self.world.heap, line);
         if let Err(wrong) = self.command(line, &mut args, out) {
             self.passing = true;
-            write_error(out, number, wrong, args.last)?;
+            writeln!(out, "error {number}: {wrong} {}", Printable(args.last))?;
         }
         Ok(())
     }
 
     fn command(&mut self, line: &[u8], args: &mut Args<'_>, out: &mut String) -> Result<(), Wrong> {
-        let word = args.word()?;
-        if is_word(word, b"scenario") {
-            return self.scenario(args, out);
-        }
-        if self.passing {
+        let command = Command::try_from(args.word()?);
+        if self.passing && !matches!(command, Ok(Command::Scenario)) {
             return Ok(());
         }
-        if let Some(command) = backend_word(word) {
-            return backend_command(&mut self.world, command, args);
+        match command? {
+            Command::Scenario => self.scenario(args, out),
+            Command::Backend(command) => self.world.backend_command(command, args),
+            Command::Scanner(command) => self.world.scanner_command(command, args),
+            Command::Filter(command) => self.world.filter_command(command, args),
+            Command::Ask(question) => self.ask(line, question, args, out),
+            Command::Call => Err(Wrong::NotYet),
         }
-        if let Some(command) = scanner_word(word) {
-            return scanner_command(&mut self.world, command, args);
-        }
-        if let Some(command) = filter_word(word) {
-            return filter_command(&mut self.world, command, args);
-        }
-        if let Some(question) = question_word(word) {
-            return self.ask(line, question, args, out);
-        }
-        if is_call(word) {
-            return Err(Wrong::NotYet);
-        }
-        Err(Wrong::Unknown)
     }
 
     // A question prints its line before its answer.
@@ -75,11 +61,8 @@ impl Session {
         out: &mut String,
     ) -> Result<(), Wrong> {
         let mut told = String::new(self.world.heap);
-        answer(&mut self.world, question, args, &mut told)?;
-        out.push_str("> ")?;
-        push_bytes(out, line)?;
-        out.push('\n')?;
-        out.push_str(told.as_str())?;
+        self.world.answer(question, args, &mut told)?;
+        write!(out, "> {}\n{told}", Printable(line))?;
         Ok(())
     }
 
@@ -89,28 +72,6 @@ impl Session {
         args.end()?;
         self.world = World::new(self.world.heap)?;
         self.passing = false;
-        out.push_str("== ")?;
-        push_bytes(out, name)?;
-        out.push('\n')?;
-        Ok(())
+        Ok(writeln!(out, "== {}", Printable(name))?)
     }
-}
-
-fn write_error(out: &mut String, number: u64, wrong: Wrong, word: &[u8]) -> Result<(), AllocError> {
-    if let Err(_) = write!(out, "error {number}: {wrong} ") {
-        return Err(AllocError);
-    }
-    push_bytes(out, word)?;
-    out.push('\n')
-}
-
-// Bytes of the input as they are; those that do not print come as a question mark.
-fn push_bytes(out: &mut String, bytes: &[u8]) -> Result<(), AllocError> {
-    for b in bytes {
-        match *b {
-            b' '..=b'~' => out.push(*b as char)?,
-            _ => out.push('?')?,
-        }
-    }
-    Ok(())
 }

@@ -7,9 +7,10 @@ use std::alloc::{AllocError, Global};
 #[derive(Drop)]
 pub struct World {
     pub heap: Global,
-    pub backend: AnyBackend,
+    pub backend: Option<AnyBackend>,
     pub scanner: AnyScanner,
-    pub rules: Rules,
+    // None while no line named anything: everything is allowed.
+    pub rules: Option<Rules>,
     // How many faults the list has room for that later steps and runs are given.
     pub places: u64,
 }
@@ -18,12 +19,11 @@ impl World {
     // No backend, a catalogue of nothing but "/", and everything allowed.
     pub fn new(heap: Global) -> Result<World, AllocError> {
         let catalogue = Catalogue::new(heap)?;
-        let rules = Rules::new(heap)?;
         Ok(World {
             heap,
-            backend: AnyBackend::None,
+            backend: None,
             scanner: AnyScanner::Catalogue(catalogue),
-            rules,
+            rules: None,
             places: 512,
         })
     }

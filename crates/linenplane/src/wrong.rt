@@ -1,4 +1,8 @@
 // What can be wrong with a line of a scenario.
+use paths::Refusal;
+use scenario::TextError;
+use sheet::ClassRefusal;
+use simulated::BoardError;
 use std::alloc::AllocError;
 use std::fmt;
 
@@ -45,6 +49,39 @@ impl fmt::Display for Wrong {
 impl From<AllocError> for Wrong {
     fn from(_: AllocError) -> Wrong {
         Wrong::NoMemory
+    }
+}
+
+impl From<TextError> for Wrong {
+    fn from(error: TextError) -> Wrong {
+        match error {
+            TextError::BadText => Wrong::NoText,
+            TextError::NoMemory => Wrong::NoMemory,
+        }
+    }
+}
+
+impl From<Refusal> for Wrong {
+    fn from(_: Refusal) -> Wrong {
+        Wrong::NoPath
+    }
+}
+
+impl From<BoardError> for Wrong {
+    fn from(error: BoardError) -> Wrong {
+        match error {
+            BoardError::Slots => Wrong::Slots,
+            BoardError::NoMemory => Wrong::NoMemory,
+        }
+    }
+}
+
+impl From<ClassRefusal> for Wrong {
+    fn from(refusal: ClassRefusal) -> Wrong {
+        match refusal {
+            ClassRefusal::FollowedLink => Wrong::FollowedLink,
+            ClassRefusal::Full => Wrong::FullSheet,
+        }
     }
 }
 
