@@ -86,7 +86,7 @@ impl Sheet {
         })
     }
 
-    // Removes the rows at a path and below it.
+    // Removes the rows at a path and below it. A closure takes rows of one type, so each list has its own.
     pub fn strike(&mut self, path: &Path)
         ensures { rows self.new ≡ struck path.now (rows self.old) }
     {
