@@ -1,9 +1,8 @@
 -- Roots and identities, and the keys that are made of them: how each is told apart and ordered.
-use Rattle.std.specs.Prelude.{◌≡◌, Bool, true, false, ◌&&◌, refl}
+use Rattle.std.specs.Prelude.{Bool, ◌&&◌}
 use Rattle.std.specs.Bool.{beq}
 use Rattle.std.specs.Ordering.{ordering_then, bool_cmp, is_lt}
 use Rattle.std.specs.declared.cmp.Ordering.{Ordering}
-use Rattle.std.specs.declared.cmp.Ordering.TheVariants.{Less, Equal, Greater}
 use Rattle.rules.specs.contracts.identity_kind.IdentityKindPartialEq.TheImpl as kind_eq
 use Rattle.rules.specs.contracts.identity_kind.IdentityKindOrd.TheImpl as kind_ord
 use Rattle.paths.specs.Names.{Names, same_path}
@@ -46,12 +45,6 @@ same_kind = kind_eq.ghosts.eq
 -- The canonical ones first, as the derive orders kinds.
 abbrev pub order_kind : IdentityKind → IdentityKind → Ordering
 order_kind = kind_ord.ghosts.cmp
-
-pub kinds_apart : (same_kind Canonical Canonical ≡ true) × (same_kind Canonical Lexical ≡ false) × (same_kind Lexical Canonical ≡ false) × (same_kind Lexical Lexical ≡ true)
-kinds_apart = (refl, refl, refl, refl)
-
-pub kinds_ordered : (order_kind Canonical Canonical ≡ Equal) × (order_kind Canonical Lexical ≡ Less) × (order_kind Lexical Canonical ≡ Greater) × (order_kind Lexical Lexical ≡ Equal)
-kinds_ordered = (refl, refl, refl, refl)
 
 -- The same kind and path.
 abbrev pub same_identity : Identity → Identity → Bool
