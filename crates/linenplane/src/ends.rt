@@ -7,8 +7,8 @@ ghost use Rattle.linenplane.specs.Ends.{book_by, did_by, means_by, classified_by
 
 use crate::wrong::Wrong;
 use catalogue::Catalogue;
-use outside::{Backend, BackendCause, Carried, EntryKind, Item, ScanCause, Scanner};
-use paths::Path;
+use outside::{Backend, BackendCause, Carried, EntryKind, ScanCause, Scanner};
+use paths::{Name, Path};
 use sheet::Sheet;
 use simulated::{Board, Roll};
 
@@ -65,7 +65,11 @@ impl Scanner for AnyScanner {
         }
     }
 
-    fn item(&self, path: &Path, number: usize) -> Result<Item, ScanCause> {
+    fn item(
+        &self,
+        path: &Path,
+        number: usize,
+    ) -> Result<Option<Result<Name, ScanCause>>, ScanCause> {
         match self {
             AnyScanner::Catalogue(catalogue) => catalogue.item(path, number),
             AnyScanner::Sheet(sheet) => sheet.item(path, number),

@@ -5,7 +5,7 @@ use crate::commands::Question;
 use crate::ends::AnyBackend;
 use crate::world::World;
 use crate::wrong::Wrong;
-use outside::{Backend, BackendCause, Carried, Filterer, Item, Scanner};
+use outside::{Backend, BackendCause, Carried, Filterer, Scanner};
 use paths::{Name, Path, absolute};
 use scenario::encode;
 use std::alloc::AllocError;
@@ -58,9 +58,9 @@ impl World {
     fn write_items(&self, path: &Path, out: &mut String) -> Result<(), AllocError> {
         for number in 0..MOST_ITEMS {
             match self.scanner.item(path, number) {
-                Ok(Item::Child(name)) => write_name(out, &name)?,
-                Ok(Item::Failed(cause)) => writeln!(out, "cause {cause}")?,
-                Ok(Item::End) => return writeln!(out, "items {number}"),
+                Ok(Some(Ok(name))) => write_name(out, &name)?,
+                Ok(Some(Err(cause))) => writeln!(out, "cause {cause}")?,
+                Ok(None) => return writeln!(out, "items {number}"),
                 Err(cause) => return writeln!(out, "{cause}"),
             }
         }
