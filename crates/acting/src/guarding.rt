@@ -87,7 +87,7 @@ impl Progress {
     fn guard_failed(&mut self, root: &Root, path: &Path, how: AddResult) -> Result<(), NoPlace>
         ensures { Ends (guard_failed root.now path.now how) (reached self.old) result (reached self.new) }
     {
-        if !matches!(how, AddResult::Invalidated) {
+        if how != AddResult::Invalidated {
             return Ok(());
         }
         self.inner.put_tombstone(path)?;

@@ -7,7 +7,7 @@ ghost use Rattle.rules.specs.Model.{work};
 use crate::root::Root;
 use paths::Path;
 
-#[derive(Clone, Copy)]
+#[derive(Clone, Copy, Debug, PartialEq, Eq)]
 pub enum WorkKind {
     Guard,
     Root,
@@ -16,6 +16,7 @@ pub enum WorkKind {
     Probe,
 }
 
+// Root and path stand beside the kind, since no enum holds a path.
 // The path counts for candidates, scans and probes, the retries for candidates and scans, the root for all but probes.
 #[derive(Clone, Copy)]
 pub struct Work {
