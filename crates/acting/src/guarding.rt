@@ -5,7 +5,7 @@ ghost use Rattle.acting.specs.Model.{reached, Ends};
 
 use crate::progress::Progress;
 use looking::{ExplicitRootState, classify_explicit_root};
-use outside::{Cause, ScanCause, Scanner};
+use outside::{ScanCause, Scanner};
 use paths::Path;
 use rules::{AddResult, Failure, Fault, Identity, Root, Work};
 use tables::NoPlace;
@@ -30,7 +30,7 @@ impl Progress {
     ) -> Result<(), NoPlace>
         ensures { Ends (retry_root_at root.now path.now cause) (reached self.old) result (reached self.new) }
     {
-        self.report(Fault::scan(path, Cause::Scan(cause)))?;
+        self.report(Fault::scan(path, cause.into()))?;
         self.inner.put_retry_root(root)
     }
 
@@ -51,7 +51,7 @@ impl Progress {
         }
     }
 
-    // The guard is in place.
+    // The guard is in place. Only this and `join_guard` take root, path and identity, so no struct holds the three.
     pub fn install_guard<S: Scanner>(
         &mut self,
         scanner: &S,
@@ -87,7 +87,7 @@ impl Progress {
     fn guard_failed(&mut self, root: &Root, path: &Path, how: AddResult) -> Result<(), NoPlace>
         ensures { Ends (guard_failed root.now path.now how) (reached self.old) result (reached self.new) }
     {
-        if !matches!(how, AddResult::Invalidated) {
+        if how != AddResult::Invalidated {
             return Ok(());
         }
         self.inner.put_tombstone(path)?;

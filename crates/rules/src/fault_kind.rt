@@ -1,12 +1,12 @@
 // What a fault is about, and the layer that it comes from.
 
-#[derive(Clone, Copy)]
+#[derive(Clone, Copy, Debug, PartialEq, Eq)]
 pub enum Layer {
     Watcher,
     Filter,
 }
 
-#[derive(Clone, Copy)]
+#[derive(Clone, Copy, Debug, PartialEq, Eq)]
 pub enum FaultKind {
     PathAdd,
     PathScan,

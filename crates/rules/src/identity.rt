@@ -12,6 +12,7 @@ pub struct Identity {
     pub path: Path,
 }
 
+// One constructor for each kind: one for both would be the struct itself.
 impl Identity {
     pub fn canonical(path: &Path) -> Identity
         ensures { result ≡ canonical path.now }

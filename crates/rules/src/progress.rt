@@ -1,13 +1,13 @@
 // How far an epoch is, how adding a path ended, and why a run stopped.
 
-#[derive(Clone, Copy)]
+#[derive(Clone, Copy, Debug, PartialEq, Eq)]
 pub enum Phase {
     Traversing,
     Sweeping,
     Settled,
 }
 
-#[derive(Clone, Copy)]
+#[derive(Clone, Copy, Debug, PartialEq, Eq)]
 pub enum AddResult {
     Added,
     Skipped,
@@ -15,7 +15,7 @@ pub enum AddResult {
     Rebuild,
 }
 
-#[derive(Clone, Copy)]
+#[derive(Clone, Copy, Debug, PartialEq, Eq)]
 pub enum Reason {
     Rebuild,
     Idle,

@@ -4,7 +4,7 @@ ghost use Rattle.paths.specs.Model.{number as text_number};
 ghost use Rattle.rules.specs.Refusals.{refused as refused_as, textual};
 
 // NoRoom tells how many faults the call wrote before it stopped.
-#[derive(Clone, Copy)]
+#[derive(Clone, Copy, Debug, PartialEq, Eq)]
 pub enum Refusal {
     TextLong,
     ZeroByte,
@@ -18,6 +18,7 @@ pub enum Refusal {
 }
 
 impl Refusal {
+    // The numbers are written out: the rules give each refusal its own, with gaps, and one carries a value.
     pub fn number(self) -> u8
         ensures { result ≡ (refused_as self).number }
     {

@@ -2,12 +2,12 @@
 ghost use Rattle.std.specs.Prelude.{◌≡◌};
 ghost use Rattle.rules.specs.State.{guard_work, root_work, candidate_work};
 ghost use Rattle.rules.specs.Queueing.{work_path};
-ghost use Rattle.rules.specs.Model.{work};
+ghost use Rattle.rules.specs.Model.{work, work_by};
 
 use crate::root::Root;
 use paths::Path;
 
-#[derive(Clone, Copy)]
+#[derive(Clone, Copy, Debug, PartialEq, Eq)]
 pub enum WorkKind {
     Guard,
     Root,
@@ -16,6 +16,7 @@ pub enum WorkKind {
     Probe,
 }
 
+// Root and path stand beside the kind, since no enum holds a path.
 // The path counts for candidates, scans and probes, the retries for candidates and scans, the root for all but probes.
 #[derive(Clone, Copy)]
 pub struct Work {
@@ -26,37 +27,33 @@ pub struct Work {
 }
 
 impl Work {
+    fn new(kind: WorkKind, root: &Root, path: &Path, retries: u8) -> Work
+        ensures { work result ≡ work_by kind root.now path.now retries }
+    {
+        Work {
+            kind,
+            root: *root,
+            path: *path,
+            retries,
+        }
+    }
+
     pub fn guard(root: &Root) -> Work
         ensures { work result ≡ guard_work root.now }
     {
-        Work {
-            kind: WorkKind::Guard,
-            root: *root,
-            path: root.path,
-            retries: 0,
-        }
+        Work::new(WorkKind::Guard, root, &root.path, 0)
     }
 
     pub fn root(root: &Root) -> Work
         ensures { work result ≡ root_work root.now }
     {
-        Work {
-            kind: WorkKind::Root,
-            root: *root,
-            path: root.path,
-            retries: 0,
-        }
+        Work::new(WorkKind::Root, root, &root.path, 0)
     }
 
     pub fn candidate(root: &Root, path: &Path, retries: u8) -> Work
         ensures { work result ≡ candidate_work root.now path.now retries }
     {
-        Work {
-            kind: WorkKind::Candidate,
-            root: *root,
-            path: *path,
-            retries,
-        }
+        Work::new(WorkKind::Candidate, root, path, retries)
     }
 
     // The path at which it counts; a guard's is the parent of its root.

@@ -119,7 +119,7 @@ impl Inner {
     pub fn has_work(&self) -> bool
         ensures { result ≡ has_work (model self.now) }
     {
-        !self.nothing_waits() || !matches!(self.phase, Phase::Settled)
+        !self.nothing_waits() || self.phase != Phase::Settled
     }
 
     // Something is to be tried again, or the latch is set.

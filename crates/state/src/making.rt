@@ -46,7 +46,7 @@ impl Inner {
         })
     }
 
-    // Empty tables and marks at their beginning.
+    // Empty tables and marks at their beginning. Each table is cleared, not made anew: its memory is had once.
     pub fn reset(&mut self, kind: WatcherKind, follow: bool, cwd: &Path)
         ensures { model self.new ≡ fresh kind follow cwd.now }
     {
