@@ -1,6 +1,5 @@
 // The words of a command, taken one by one, and what each may stand for.
 ghost use Rattle.std.specs.Prelude.{◌≡◌, ◌<◌, ◌≤◌, IfOk, IfSome, Some};
-ghost use Rattle.paths.specs.Model.{spelling};
 ghost use Rattle.scenario.specs.Escapes.{decoded};
 ghost use Rattle.scenario.specs.Numbers.{numeral};
 ghost use Rattle.linenplane.specs.Args.{left};
@@ -103,7 +102,7 @@ pub fn read_path(heap: Global, word: &[u8], place: &mut Path) -> Result<(), Wron
 }
 
 pub fn read_name(heap: Global, word: &[u8]) -> Result<Name, Wrong>
-    ensures { IfOk result (λ n. decoded word.now ≡ Some (spelling n)) }
+    ensures { IfOk result (λ n. decoded word.now ≡ Some n) }
 {
     let text = read_text(heap, word)?;
     Name::new(&text).ok_or(Wrong::NoName)

@@ -1,16 +1,8 @@
 -- What the values of the code stand for.
 use Rattle.std.specs.Prelude.{ℕ, Ok, Err, Result}
-use Rattle.paths.specs.Names.{Name, Names}
+use Rattle.paths.specs.Names.{Names}
 use Rattle.paths.specs.declared.refusal.Refusal.{Refusal}
 use Rattle.paths.specs.declared.refusal.Refusal.TheVariants.{TextLong, ZeroByte, TooDeep}
-
--- A path is seen as its names.
-abbrev pub names : Names → Names
-names p = p
-
--- A name is seen as its bytes.
-abbrev pub spelling : Name → Name
-spelling n = n
 
 -- Each refusal's number.
 abbrev pub number : Refusal → ℕ
