@@ -1,5 +1,5 @@
 // Making a name of bytes, and reading it.
-ghost use Rattle.std.specs.Prelude.{◌≡◌, ℕ, true};
+ghost use Rattle.std.specs.Prelude.{◌≡◌, ◌≤◌, ℕ, true, length};
 ghost use Rattle.paths.specs.Names.{dots, plain, named, name_of};
 
 use super::Name;
@@ -43,6 +43,7 @@ impl Name {
     pub fn bytes(&self) -> &[u8]
         ensures value { result.now ≡ self.now }
         ensures named { named result.now ≡ true }
+        ensures within { length result.now ≤ 255 }
     {
         &self.bytes[0..self.len]
     }

@@ -1,6 +1,6 @@
 // Going up and down from a path, its text, and how paths stand to each other.
-ghost use Rattle.std.specs.Prelude.{◌≡◌, ℕ, [], ◌∷◌, length};
-ghost use Rattle.paths.specs.Names.{up, last, text as text_of, starts_with};
+ghost use Rattle.std.specs.Prelude.{◌≡◌, ℕ, true, [], ◌∷◌, length};
+ghost use Rattle.paths.specs.Names.{good, up, last, text as text_of, starts_with, within};
 ghost use Rattle.paths.specs.Order.{order_path};
 ghost use Rattle.paths.specs.Texts.{limited};
 ghost use Rattle.paths.specs.Laws.{ReadsBack, PartialOrder, TotalOrder, AboveFirst};
@@ -31,6 +31,8 @@ impl Path {
     // The bytes that it is written with.
     pub fn text(&self) -> &[u8]
         ensures value { result.now ≡ text_of self.now }
+        ensures good { good self.now ≡ true }
+        ensures within { within self.now ≡ true }
         ensures laws { ReadsBack }
     {
         if self.depth() == 0 {
