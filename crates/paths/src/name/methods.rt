@@ -23,13 +23,7 @@ impl Name {
     pub fn new(bytes: &[u8]) -> Option<Name>
         ensures { result ≡ name_of bytes.now }
     {
-        if bytes.len() > 255 {
-            return None;
-        }
-        if !is_plain(bytes) {
-            return None;
-        }
-        if is_dots(bytes) {
+        if bytes.len() > 255 || !is_plain(bytes) || is_dots(bytes) {
             return None;
         }
         let mut own = [0; 255];
@@ -45,6 +39,6 @@ impl Name {
         ensures named { named result.now ≡ true }
         ensures within { length result.now ≤ 255 }
     {
-        &self.bytes[0..self.len]
+        &self.bytes[..self.len]
     }
 }

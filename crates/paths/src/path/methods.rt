@@ -38,7 +38,7 @@ impl Path {
         if self.depth() == 0 {
             return b"/";
         }
-        self.spelled.bytes() // as it is kept
+        self.spelled.bytes() // each name behind its slash
     }
 
     // Puts the child of that name into the place that the caller lends, since no result holds a path.
@@ -82,7 +82,7 @@ impl Path {
         rest.is_empty() || rest[0] == b'/'
     }
 
-    // By names from "/" down, a beginning first.
+    // `cmp`, with what it comes to: a total order, where a path comes no later than what lies below it.
     pub fn order(&self, other: &Path) -> Ordering
         ensures value { result ≡ order_path self.now other.now }
         ensures laws { TotalOrder order_path }
