@@ -16,6 +16,7 @@ pub fn encode(out: &mut String, text: &[u8]) -> Result<(), AllocError>
     }
 }
 
+// Not the library's `percent_encode`: what stands for itself would be told twice, here as a set and in `reading` as a test.
 fn spell(out: &mut String, text: &[u8]) -> Result<(), AllocError>
     ensures { string_bytes out.new ≡ (if is_ok result then string_bytes out.old ++ spelt text.now else string_bytes out.old) }
 {
