@@ -1,7 +1,7 @@
 // The commands that set the filterer up, and the room for faults.
 use crate::args::Args;
 use crate::commands::FilterCommand;
-use crate::rules::Rules;
+use crate::filterer::Rules;
 use crate::world::World;
 use crate::wrong::Wrong;
 use std::alloc::AllocError;
@@ -41,16 +41,17 @@ impl World {
 
     // The rules, made where the first name is set.
     fn named_rules(&mut self) -> Result<&mut Rules, AllocError> {
-        if self.rules.is_none() {
-            self.rules = Some(Rules::new(self.heap)?);
+        let heap = self.heap;
+        match &mut self.rules {
+            Some(rules) => Ok(rules),
+            none => Ok(none.insert(Rules::new(heap)?)),
         }
-        Ok(self.rules.as_mut().unwrap())
     }
 
     fn faults(&mut self, args: &mut Args<'_>) -> Result<(), Wrong> {
         let places = args.number(65536)?;
         args.end()?;
-        self.places = places;
+        self.fault_places = places;
         Ok(())
     }
 }

@@ -36,7 +36,7 @@ impl World {
         let follow = args.follow()?;
         args.end()?;
         let mut path = Path::root();
-        if takes(&text, &mut path, out)? {
+        if read_or_refuse(&text, &mut path, out)? {
             let mut canonical = Path::root();
             let entry = self.scanner.classify(&path, follow, &mut canonical);
             write_entry(out, entry, &canonical)?;
@@ -48,7 +48,7 @@ impl World {
         let text = args.text()?;
         args.end()?;
         let mut path = Path::root();
-        if takes(&text, &mut path, out)? {
+        if read_or_refuse(&text, &mut path, out)? {
             self.write_items(&path, out)?;
         }
         Ok(())
@@ -81,7 +81,7 @@ impl World {
         let text = args.text()?;
         args.end()?;
         let mut path = Path::root();
-        if takes(&text, &mut path, out)? {
+        if read_or_refuse(&text, &mut path, out)? {
             let backend = self.backend.as_mut().ok_or(Wrong::NoBackend)?;
             let mut carried = Carried::nothing();
             let answer = ask(backend, &path, &mut carried);
@@ -101,7 +101,7 @@ impl World {
         let text = args.text()?;
         args.end()?;
         let mut path = Path::root();
-        if takes(&text, &mut path, out)? {
+        if read_or_refuse(&text, &mut path, out)? {
             let verdict = match &self.rules {
                 Some(rules) => rules.verdict(&path),
                 None => ().check_dir(&path),
@@ -113,7 +113,7 @@ impl World {
 }
 
 // Puts the path that a text names below "/" into the place, or prints the refusal and answers no.
-fn takes(text: &[u8], place: &mut Path, out: &mut String) -> Result<bool, AllocError> {
+fn read_or_refuse(text: &[u8], place: &mut Path, out: &mut String) -> Result<bool, AllocError> {
     let Err(refusal) = absolute(&Path::root(), text, place) else {
         return Ok(true);
     };

@@ -61,10 +61,8 @@ impl Rules {
     }
 
     pub fn verdict(&self, path: &Path) -> Result<bool, FilterFault> {
-        if let Some(name) = path.name() {
-            if let Some(number) = self.balked(&name) {
-                return Err(FilterFault(number));
-            }
+        if let Some(number) = path.name().and_then(|name| self.balked(&name)) {
+            return Err(FilterFault(number));
         }
         self.denied.check_dir(path)
     }
