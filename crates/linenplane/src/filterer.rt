@@ -18,6 +18,7 @@ pub struct Balk {
 #[derive(Drop)]
 pub struct Rules {
     denied: NameFilter,
+    // A list, not a map: names have no order, and there are at most 16.
     balks: Vec<Balk>,
 }
 

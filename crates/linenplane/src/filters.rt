@@ -36,6 +36,7 @@ impl World {
         let name = args.name()?;
         let number = args.number(u64::from(u16::MAX))?;
         args.end()?;
+        // The number is bounded where it is read, so the cast keeps it.
         self.named_rules()?.balk(&name, number as u16)
     }
 
