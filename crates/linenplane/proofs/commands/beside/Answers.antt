@@ -22,5 +22,5 @@ returns c =
     let half : c.map.result ≡ option_map (λ (r : Row). r.1) (option_map (λ (y : Bor Row). y.now) c.find.result) = search (rules, tests) in
     record {
       value = half ∙ ap (option_map (λ (r : Row). r.1)) found ∙ first c.args.word.now c.args.table.now;
-      kinds = kind_by_kind
+      kinds = kind_by_kind;
     }
