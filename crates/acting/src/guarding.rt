@@ -4,7 +4,7 @@ ghost use Rattle.rules.specs.Guarding.{root_appeared, retry_root_at, guard_not_w
 ghost use Rattle.acting.specs.Model.{reached, Ends};
 
 use crate::progress::Progress;
-use looking::{ExplicitRootState, classify_explicit_root};
+use looking::{RootRefusal, classify_explicit_root};
 use outside::{ScanCause, Scanner};
 use paths::Path;
 use rules::{AddResult, Failure, Fault, Identity, Root, Work};
@@ -45,9 +45,9 @@ impl Progress {
         let follow = self.inner.follows();
         let mut place = root.path;
         match classify_explicit_root(scanner, follow, &root.path, &mut place) {
-            ExplicitRootState::Entry(_) => self.root_appeared(root),
-            ExplicitRootState::Failed(cause) => self.retry_root_at(root, &place, cause),
-            ExplicitRootState::NotFound | ExplicitRootState::Unsafe => Ok(()),
+            Ok(_) => self.root_appeared(root),
+            Err(RootRefusal::Failed(cause)) => self.retry_root_at(root, &place, cause),
+            Err(RootRefusal::NotFound | RootRefusal::Unsafe) => Ok(()),
         }
     }
 

@@ -66,9 +66,6 @@ command w = beside w words
 abbrev pub backend_word : List ℕ → Option BackendCommand
 backend_word w = beside w backend_words
 
-abbrev pub row_word : List ℕ → Option ScannerCommand
-row_word w = beside w row_words
-
 abbrev pub scanner_word : List ℕ → Option ScannerCommand
 scanner_word w = beside w scanner_words
 

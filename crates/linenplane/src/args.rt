@@ -56,11 +56,13 @@ impl<'a> Args<'a> {
         read_text(self.heap, self.word()?)
     }
 
+    // Into a place that the caller lends, since no result holds a path.
     pub fn path(&mut self, place: &mut Path) -> Result<(), Wrong> {
         read_path(self.heap, self.word()?, place)
     }
 
     // The path of a link's target, whose text is absolute.
+    // Into a place that the caller lends, since no result holds a path.
     pub fn target(&mut self, place: &mut Path) -> Result<(), Wrong> {
         let word = self.word()?;
         if !word.starts_with(b"/") {
@@ -96,6 +98,7 @@ pub fn read_text(heap: Global, word: &[u8]) -> Result<Vec<u8>, Wrong>
 }
 
 // Puts the path that a text names below "/" into the place.
+// Into a place that the caller lends, since no result holds a path.
 pub fn read_path(heap: Global, word: &[u8], place: &mut Path) -> Result<(), Wrong> {
     let text = read_text(heap, word)?;
     Ok(absolute(&Path::root(), &text, place)?)

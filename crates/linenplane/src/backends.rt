@@ -14,6 +14,7 @@ impl World {
         command: BackendCommand,
         args: &mut Args<'_>,
     ) -> Result<(), Wrong> {
+        // A match, not closures: the commands are closed, and each has its own arguments.
         match command {
             BackendCommand::Board => self.board(args),
             BackendCommand::Roll => self.roll(args),
@@ -27,6 +28,7 @@ impl World {
         if self.backend.is_some() {
             return Err(Wrong::SecondBackend);
         }
+        // The number is bounded where it is read, so the cast keeps it.
         let board = Board::new(self.heap, slots as usize)?;
         self.backend = Some(AnyBackend::Board(board));
         Ok(())

@@ -8,6 +8,7 @@ use std::alloc::AllocError;
 use std::fmt::Write;
 
 // A cause of a scanner: `not-found` or `number:N`.
+// No TryFrom: neither type is of this crate, and a wrapper of the cause would be no plainer.
 pub fn read_scan_cause(word: &[u8]) -> Result<ScanCause, Wrong> {
     match word {
         b"not-found" => Ok(ScanCause::NotFound),
@@ -19,6 +20,7 @@ pub fn read_scan_cause(word: &[u8]) -> Result<ScanCause, Wrong> {
 }
 
 // An answer of a backend: `done` or a cause.
+// No TryFrom: neither type is of this crate, and a wrapper of the cause would be no plainer.
 pub fn read_answer(word: &[u8]) -> Result<Result<(), BackendCause>, Wrong> {
     Ok(match word {
         b"done" => Ok(()),
@@ -33,11 +35,13 @@ pub fn read_answer(word: &[u8]) -> Result<Result<(), BackendCause>, Wrong> {
     })
 }
 
+// The number is bounded where it is read, so the cast keeps it.
 fn read_u32(word: &[u8]) -> Result<u32, Wrong> {
     Ok(read_number(word, u64::from(u32::MAX))? as u32)
 }
 
 // The line of a request: its verb, its path, the answer, and the path that the answer carried.
+// A function, not a Display: a path is spelt by encode, whose promise is of a String.
 pub fn write_request(
     out: &mut String,
     verb: &str,
@@ -59,6 +63,7 @@ pub fn write_request(
 }
 
 // The line of a classification.
+// A function, not a Display: a path is spelt by encode, whose promise is of a String.
 pub fn write_entry(
     out: &mut String,
     entry: Result<EntryKind, ScanCause>,

@@ -1,6 +1,6 @@
 // The words that begin a line.
 ghost use Rattle.std.specs.Prelude.{◌≡◌, map, ok_or};
-ghost use Rattle.linenplane.specs.Commands.{beside, command};
+ghost use Rattle.linenplane.specs.Commands.{beside, command, KindByKind};
 ghost use Rattle.linenplane.specs.declared.wrong.Wrong.TheVariants.{Unknown};
 
 use crate::wrong::Wrong;
@@ -66,7 +66,8 @@ impl TryFrom<&[u8]> for Command {
 
 // What stands beside that word in a table.
 fn beside(table: &[(&[u8], Command)], word: &[u8]) -> Option<Command>
-    ensures { result ≡ beside word.now (map (λ r. (r.0.now, r.1)) table.now) }
+    ensures value { result ≡ beside word.now (map (λ r. (r.0.now, r.1)) table.now) }
+    ensures kinds { KindByKind }
 {
     table.iter().find(|row| word == row.0).map(|row| row.1)
 }

@@ -12,12 +12,14 @@ use paths::{Name, Path};
 use sheet::Sheet;
 use simulated::{Board, Roll};
 
+// Enums, not dyn: the commands also ask each kind for what only it has.
 #[derive(Drop)]
 pub enum AnyBackend {
     Board(Board),
     Roll(Roll),
 }
 
+// Enums, not dyn: the commands also ask each kind for what only it has.
 #[derive(Drop)]
 pub enum AnyScanner {
     Catalogue(Catalogue),

@@ -1,7 +1,7 @@
 // The commands that set the filterer up, and the room for faults.
 use crate::args::Args;
 use crate::commands::FilterCommand;
-use crate::rules::Rules;
+use crate::filterer::Rules;
 use crate::world::World;
 use crate::wrong::Wrong;
 use std::alloc::AllocError;
@@ -36,21 +36,23 @@ impl World {
         let name = args.name()?;
         let number = args.number(u64::from(u16::MAX))?;
         args.end()?;
+        // The number is bounded where it is read, so the cast keeps it.
         self.named_rules()?.balk(&name, number as u16)
     }
 
     // The rules, made where the first name is set.
     fn named_rules(&mut self) -> Result<&mut Rules, AllocError> {
-        if self.rules.is_none() {
-            self.rules = Some(Rules::new(self.heap)?);
+        let heap = self.heap;
+        match &mut self.rules {
+            Some(rules) => Ok(rules),
+            none => Ok(none.insert(Rules::new(heap)?)),
         }
-        Ok(self.rules.as_mut().unwrap())
     }
 
     fn faults(&mut self, args: &mut Args<'_>) -> Result<(), Wrong> {
         let places = args.number(65536)?;
         args.end()?;
-        self.places = places;
+        self.fault_places = places;
         Ok(())
     }
 }

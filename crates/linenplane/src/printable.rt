@@ -8,10 +8,11 @@ pub struct Printable<'a>(pub &'a [u8]);
 impl fmt::Display for Printable<'_> {
     fn fmt<W: fmt::Write>(&self, f: &mut fmt::Formatter<W>) -> fmt::Result {
         for b in self.0 {
-            match *b {
-                b' '..=b'~' => f.write_char(*b as char)?,
-                _ => f.write_char('?')?,
-            }
+            let shown = match *b {
+                b' '..=b'~' => char::from(*b),
+                _ => '?',
+            };
+            f.write_char(shown)?;
         }
         Ok(())
     }

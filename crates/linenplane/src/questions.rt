@@ -15,6 +15,7 @@ use std::fmt::Write;
 const MOST_ITEMS: usize = 4096;
 
 impl World {
+    // A struct of the two loans, words and output, would be made for each question and be no plainer.
     pub fn answer(
         &mut self,
         question: Question,
@@ -36,7 +37,7 @@ impl World {
         let follow = args.follow()?;
         args.end()?;
         let mut path = Path::root();
-        if takes(&text, &mut path, out)? {
+        if read_or_refuse(&text, &mut path, out)? {
             let mut canonical = Path::root();
             let entry = self.scanner.classify(&path, follow, &mut canonical);
             write_entry(out, entry, &canonical)?;
@@ -48,7 +49,7 @@ impl World {
         let text = args.text()?;
         args.end()?;
         let mut path = Path::root();
-        if takes(&text, &mut path, out)? {
+        if read_or_refuse(&text, &mut path, out)? {
             self.write_items(&path, out)?;
         }
         Ok(())
@@ -56,6 +57,7 @@ impl World {
 
     // The items of a listing, one by one, and their number; or why there is no listing.
     fn write_items(&self, path: &Path, out: &mut String) -> Result<(), AllocError> {
+        // By number, since a scanner is asked for its items so.
         for number in 0..MOST_ITEMS {
             match self.scanner.item(path, number) {
                 Ok(Some(Ok(name))) => write_name(out, &name)?,
@@ -81,7 +83,7 @@ impl World {
         let text = args.text()?;
         args.end()?;
         let mut path = Path::root();
-        if takes(&text, &mut path, out)? {
+        if read_or_refuse(&text, &mut path, out)? {
             let backend = self.backend.as_mut().ok_or(Wrong::NoBackend)?;
             let mut carried = Carried::nothing();
             let answer = ask(backend, &path, &mut carried);
@@ -101,7 +103,7 @@ impl World {
         let text = args.text()?;
         args.end()?;
         let mut path = Path::root();
-        if takes(&text, &mut path, out)? {
+        if read_or_refuse(&text, &mut path, out)? {
             let verdict = match &self.rules {
                 Some(rules) => rules.verdict(&path),
                 None => ().check_dir(&path),
@@ -113,7 +115,8 @@ impl World {
 }
 
 // Puts the path that a text names below "/" into the place, or prints the refusal and answers no.
-fn takes(text: &[u8], place: &mut Path, out: &mut String) -> Result<bool, AllocError> {
+// Into a place that the caller lends, since no result holds a path.
+fn read_or_refuse(text: &[u8], place: &mut Path, out: &mut String) -> Result<bool, AllocError> {
     let Err(refusal) = absolute(&Path::root(), text, place) else {
         return Ok(true);
     };
@@ -121,6 +124,7 @@ fn takes(text: &[u8], place: &mut Path, out: &mut String) -> Result<bool, AllocE
     Ok(false)
 }
 
+// A function, not a Display: a path is spelt by encode, whose promise is of a String.
 fn write_name(out: &mut String, name: &Name) -> Result<(), AllocError> {
     out.push_str("item ")?;
     encode(out, name.bytes())?;

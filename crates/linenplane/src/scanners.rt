@@ -28,6 +28,7 @@ impl World {
         }
     }
 
+    // Two constructors in two lines: one for both would take the constructor and be no plainer.
     fn catalogue(&mut self, args: &mut Args<'_>) -> Result<(), Wrong> {
         args.end()?;
         self.scanner = AnyScanner::Catalogue(Catalogue::new(self.heap)?);
@@ -75,6 +76,7 @@ impl World {
         args.path(&mut path)?;
         let sheet = self.scanner.sheet()?;
         sheet.list(&path).map_err(|_| Wrong::FullSheet)?;
+        // A word may be wrong: an iterator would give results, and this be no plainer.
         while let Some(word) = args.next()? {
             self.add(&path, word)?;
         }

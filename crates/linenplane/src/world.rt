@@ -1,6 +1,6 @@
 // The outside of a scenario, as its lines have set it up so far.
 use crate::ends::{AnyBackend, AnyScanner};
-use crate::rules::Rules;
+use crate::filterer::Rules;
 use catalogue::Catalogue;
 use std::alloc::{AllocError, Global};
 
@@ -12,7 +12,7 @@ pub struct World {
     // None while no line named anything: everything is allowed.
     pub rules: Option<Rules>,
     // How many faults the list has room for that later steps and runs are given.
-    pub places: u64,
+    pub fault_places: u64,
 }
 
 impl World {
@@ -24,7 +24,7 @@ impl World {
             backend: None,
             scanner: AnyScanner::Catalogue(catalogue),
             rules: None,
-            places: 512,
+            fault_places: 512,
         })
     }
 }

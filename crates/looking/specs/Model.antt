@@ -5,21 +5,22 @@ use Rattle.std.specs.declared.ops.ControlFlow.TheVariants.{Continue, Break}
 use Rattle.paths.specs.Names.{Names}
 use Rattle.outside.specs.declared.cause.ScanCause.{ScanCause}
 use Rattle.outside.specs.declared.cause.FilterFault.{FilterFault}
+use Rattle.outside.specs.declared.entry.EntryKind.{EntryKind}
 use Rattle.outside.specs.declared.entry.EntryKind.TheVariants.{Directory, NonFollowedSymlink, Other}
 use Rattle.outside.specs.Answers.{directory, symlink, other}
 use Rattle.rules.specs.Looking.{RootState, entry, missing, unsafe, failing, Place, nowhere, found, blocked, Descent, reaches, ended, Permit, allowed, refused, balked}
-use Rattle.looking.specs.declared.explicit_root.ExplicitRootState.{ExplicitRootState}
-use Rattle.looking.specs.declared.explicit_root.ExplicitRootState.TheVariants.{Entry, NotFound, Unsafe, Failed}
+use Rattle.looking.specs.declared.explicit_root.RootRefusal.{RootRefusal}
+use Rattle.looking.specs.declared.explicit_root.RootRefusal.TheVariants.{NotFound, Unsafe, Failed}
 use Rattle.looking.specs.declared.place.Place.{Place as PlaceValue}
 
 -- A root's state with the canonical path of a directory, or the path that is missing or fails.
-abbrev pub root_state : ExplicitRootState → Names → RootState
-root_state (Entry Directory) p = entry (directory p)
-root_state (Entry NonFollowedSymlink) p = entry symlink
-root_state (Entry Other) p = entry other
-root_state NotFound p = missing p
-root_state Unsafe p = unsafe
-root_state (Failed c) p = failing p c
+abbrev pub root_state : Result EntryKind RootRefusal → Names → RootState
+root_state (Ok Directory) p = entry (directory p)
+root_state (Ok NonFollowedSymlink) p = entry symlink
+root_state (Ok Other) p = entry other
+root_state (Err NotFound) p = missing p
+root_state (Err Unsafe) p = unsafe
+root_state (Err (Failed c)) p = failing p c
 
 -- A guard with its path and canonical path, or a cause with its path.
 abbrev pub place_of : Result Bool ScanCause → PlaceValue → Place

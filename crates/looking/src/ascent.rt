@@ -1,6 +1,6 @@
 // The nearest directory at or above a path, with following.
 ghost use Rattle.std.specs.Prelude.{◌≡◌};
-ghost use Rattle.rules.specs.Looking.{ascend as ascend_to};
+ghost use Rattle.rules.specs.Looking.{ascend};
 ghost use Rattle.looking.specs.Model.{place_of};
 
 use crate::place::{Place, visit};
@@ -14,7 +14,7 @@ pub(crate) fn ascend<S: Scanner>(
     path: &Path,
     place: &mut Place,
 ) -> Result<bool, ScanCause>
-    ensures { place_of result place.new ≡ ascend_to (S.Scanner.classified scanner.now) path.now }
+    ensures { place_of result place.new ≡ ascend (S.Scanner.classified scanner.now) path.now }
 {
     if visit(scanner, true, path, place)? {
         return Ok(true);

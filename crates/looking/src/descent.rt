@@ -1,7 +1,7 @@
 // The walk from "/" down to a path, without following.
 ghost use Rattle.std.specs.Prelude.{◌≡◌, false, Ok};
 ghost use Rattle.std.specs.ControlFlow.{ForContinue};
-ghost use Rattle.rules.specs.Looking.{landed as landed_at, descend as descend_to};
+ghost use Rattle.rules.specs.Looking.{landed, descend};
 ghost use Rattle.looking.specs.Model.{place_of, descent_of};
 
 use crate::place::{Place, visit};
@@ -16,7 +16,7 @@ fn landed<S: Scanner>(
     path: &Path,
     place: &mut Place,
 ) -> ControlFlow<Result<bool, ScanCause>>
-    ensures value { descent_of result place.new ≡ landed_at path.now (place_of (Ok before) place.old) (S.Scanner.classified scanner.now path.now false) }
+    ensures value { descent_of result place.new ≡ landed path.now (place_of (Ok before) place.old) (S.Scanner.classified scanner.now path.now false) }
     ensures there { ForContinue result (λ _. place.new.path ≡ path.now) }
 {
     match visit(scanner, false, path, place) {
@@ -33,7 +33,7 @@ pub(crate) fn descend<S: Scanner>(
     path: &Path,
     place: &mut Place,
 ) -> ControlFlow<Result<bool, ScanCause>>
-    ensures value { descent_of result place.new ≡ descend_to (S.Scanner.classified scanner.now) path.now }
+    ensures value { descent_of result place.new ≡ descend (S.Scanner.classified scanner.now) path.now }
     ensures there { ForContinue result (λ _. place.new.path ≡ path.now) }
 {
     if path.depth() == 0 {

@@ -1,16 +1,14 @@
 // How a configured root stands.
 ghost use Rattle.std.specs.Prelude.{◌≡◌, false};
-ghost use Rattle.rules.specs.Looking.{reached as reached_as, not_followed, classify_explicit_root};
+ghost use Rattle.rules.specs.Looking.{reached, not_followed, classify_explicit_root};
 ghost use Rattle.looking.specs.Model.{root_state};
 
 use outside::{EntryKind, ScanCause, Scanner};
 use paths::Path;
 
-// Name and cases are those of the program that is carried over, so it is no Result.
-// The canonical path of a directory, and the path that is not found or that failed, stand beside: no enum holds a path.
-#[derive(Clone, Copy)]
-pub enum ExplicitRootState {
-    Entry(EntryKind),
+// Why a root is no entry. The path that is not found or that failed stands beside, as does a directory's canonical path.
+#[derive(Clone, Copy, Debug, PartialEq, Eq)]
+pub enum RootRefusal {
     NotFound,
     Unsafe,
     Failed(ScanCause),
@@ -22,17 +20,17 @@ fn reached<S: Scanner>(
     follow: bool,
     path: &Path,
     place: &mut Path,
-) -> ExplicitRootState
-    ensures { root_state result place.new ≡ reached_as path.now (S.Scanner.classified scanner.now path.now follow) }
+) -> Result<EntryKind, RootRefusal>
+    ensures { root_state result place.new ≡ reached path.now (S.Scanner.classified scanner.now path.now follow) }
 {
     match scanner.classify(path, follow, place) {
-        Ok(EntryKind::NonFollowedSymlink) => ExplicitRootState::Unsafe,
-        Ok(kind) => ExplicitRootState::Entry(kind),
+        Ok(EntryKind::NonFollowedSymlink) => Err(RootRefusal::Unsafe),
+        Ok(kind) => Ok(kind),
         Err(cause) => {
             *place = *path;
             match cause {
-                ScanCause::NotFound => ExplicitRootState::NotFound,
-                ScanCause::Number(_) => ExplicitRootState::Failed(cause),
+                ScanCause::NotFound => Err(RootRefusal::NotFound),
+                ScanCause::Number(_) => Err(RootRefusal::Failed(cause)),
             }
         }
     }
@@ -40,17 +38,20 @@ fn reached<S: Scanner>(
 
 // From "/" down; a path has at most 8 names, so the recursion is shallow.
 #[tactic(auto, unfolding(rules::specs::Looking::not_followed))]
-fn not_followed<S: Scanner>(scanner: &S, path: &Path, place: &mut Path) -> ExplicitRootState
+fn not_followed<S: Scanner>(
+    scanner: &S,
+    path: &Path,
+    place: &mut Path,
+) -> Result<EntryKind, RootRefusal>
     ensures { root_state result place.new ≡ not_followed (S.Scanner.classified scanner.now) path.now }
 {
     if path.depth() == 0 {
         return reached(scanner, false, path, place);
     }
-    match not_followed(scanner, &path.parent(), place) {
-        ExplicitRootState::Entry(EntryKind::Directory) => reached(scanner, false, path, place),
-        ExplicitRootState::Entry(_) => ExplicitRootState::Unsafe,
-        ended => ended,
+    if not_followed(scanner, &path.parent(), place)? != EntryKind::Directory {
+        return Err(RootRefusal::Unsafe);
     }
+    reached(scanner, false, path, place)
 }
 
 // The place holds afterwards the path that stands beside the state.
@@ -60,7 +61,7 @@ pub fn classify_explicit_root<S: Scanner>(
     follow: bool,
     path: &Path,
     place: &mut Path,
-) -> ExplicitRootState
+) -> Result<EntryKind, RootRefusal>
     ensures { root_state result place.new ≡ classify_explicit_root (S.Scanner.classified scanner.now) follow path.now }
 {
     if follow {

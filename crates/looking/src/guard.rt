@@ -11,7 +11,7 @@ use paths::Path;
 use std::ops::ControlFlow;
 
 // Whether a directory above the root guards it, which the place then holds; "/" has none above.
-// With following it is the nearest, without the last of the unbroken run from "/".
+// With following it is the nearest; without following, the last of the unbroken run from "/".
 #[tactic(auto, unfolding(rules::specs::Looking::guard_place))]
 pub fn guard_place<S: Scanner>(
     scanner: &S,

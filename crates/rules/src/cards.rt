@@ -1,4 +1,4 @@
-// Ten flights whose course is known beforehand.
+// The ten worked examples.
 ghost use Rattle.std.specs.Prelude.{◌≡◌};
 ghost use Rattle.rules.specs.Cards.{Cards};
 

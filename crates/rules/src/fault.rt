@@ -17,7 +17,7 @@ pub struct Fault {
     pub cause: Cause,
 }
 
-// The scarce resource that a backend's cause speaks of, if it does.
+// The scarce resource that a backend's cause speaks of, if it does: the numbers are Linux's.
 pub fn resource(cause: BackendCause) -> Option<FaultKind>
     ensures { result ≡ resource cause }
 {
@@ -44,13 +44,14 @@ impl Fault {
     }
 
     // A watch that was not done.
+    // One constructor for each kind: one for both would be `at` with the kind given.
     pub fn add(failure: &Failure) -> Fault
         ensures { result ≡ add_fault failure.now.path failure.now.cause failure.now.carried }
     {
         Fault::at(FaultKind::PathAdd, failure.at(), failure.cause.into())
     }
 
-    // An unwatch that was not done.
+    // An unwatch that was not done; a constructor of its own, as that of a watch.
     pub fn remove(failure: &Failure) -> Fault
         ensures { result ≡ remove_fault failure.now.path failure.now.cause failure.now.carried }
     {

@@ -1,7 +1,7 @@
 // Why a call is refused.
 ghost use Rattle.std.specs.Prelude.{◌≡◌};
 ghost use Rattle.paths.specs.Model.{number as text_number};
-ghost use Rattle.rules.specs.Refusals.{refused as refused_as, textual};
+ghost use Rattle.rules.specs.Refusals.{refused, textual};
 
 // NoRoom tells how many faults the call wrote before it stopped.
 #[derive(Clone, Copy, Debug, PartialEq, Eq)]
@@ -20,7 +20,7 @@ pub enum Refusal {
 impl Refusal {
     // The numbers are written out: the rules give each refusal its own, with gaps, and one carries a value.
     pub fn number(self) -> u8
-        ensures { result ≡ (refused_as self).number }
+        ensures { result ≡ (refused self).number }
     {
         match self {
             Refusal::TextLong => 1,
@@ -38,7 +38,7 @@ impl Refusal {
 
 // A text's refusal is the call's.
 impl From<paths::Refusal> for Refusal {
-    ghost from_gives = { λ c r. refused_as r ≡ textual (text_number c) };
+    ghost from_gives = { λ c r. refused r ≡ textual (text_number c) };
 
     fn from(refusal: paths::Refusal) -> Refusal {
         match refusal {

@@ -2,7 +2,7 @@
 use crate::root::Root;
 use paths::Path;
 
-// By root, then by path.
+// By root, then by path; an Owned has the other order.
 #[derive(Clone, Copy, PartialEq, Eq, PartialOrd, Ord)]
 pub struct Share {
     pub root: Root,

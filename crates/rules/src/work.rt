@@ -18,6 +18,7 @@ pub enum WorkKind {
 
 // Root and path stand beside the kind, since no enum holds a path.
 // The path counts for candidates, scans and probes, the retries for candidates and scans, the root for all but probes.
+// No model: the fields do not follow from what it stands for, and pinning them would be no plainer.
 #[derive(Clone, Copy)]
 pub struct Work {
     pub kind: WorkKind,
@@ -63,7 +64,7 @@ impl Work {
         match self.kind {
             WorkKind::Guard => self.root.path.parent(),
             WorkKind::Root => self.root.path,
-            _ => self.path,
+            WorkKind::Candidate | WorkKind::Scan | WorkKind::Probe => self.path,
         }
     }
 }

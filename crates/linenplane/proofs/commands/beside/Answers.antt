@@ -5,6 +5,7 @@ use Rattle.std.specs.List.{find}
 use Rattle.std.specs.Str.{bytes_eq}
 use Rattle.linenplane.specs.Commands.{beside}
 use Rattle.linenplane.specs.declared.commands.Command.{Command}
+use Rattle.linenplane.proofs.WordKinds.{kind_by_kind}
 use Rattle.linenplane.proofs.commands.beside.Goals as goal
 
 abbrev Row : Type 0
@@ -19,4 +20,7 @@ pub returns : goal.returns
 returns c =
     let found = find_from_yields_List (λ (r : Row). bytes_eq c.args.word.now r.0.now) _ _ c.find.result c.find.ensures.ran (YieldsList-from_slice c.args.table.now cc) (λ x b q k. search (rules, tests)) in
     let half : c.map.result ≡ option_map (λ (r : Row). r.1) (option_map (λ (y : Bor Row). y.now) c.find.result) = search (rules, tests) in
-    half ∙ ap (option_map (λ (r : Row). r.1)) found ∙ first c.args.word.now c.args.table.now
+    record {
+      value = half ∙ ap (option_map (λ (r : Row). r.1)) found ∙ first c.args.word.now c.args.table.now;
+      kinds = kind_by_kind;
+    }

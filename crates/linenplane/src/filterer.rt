@@ -18,6 +18,7 @@ pub struct Balk {
 #[derive(Drop)]
 pub struct Rules {
     denied: NameFilter,
+    // A list, not a map: names have no order, and there are at most 16.
     balks: Vec<Balk>,
 }
 
@@ -61,10 +62,8 @@ impl Rules {
     }
 
     pub fn verdict(&self, path: &Path) -> Result<bool, FilterFault> {
-        if let Some(name) = path.name() {
-            if let Some(number) = self.balked(&name) {
-                return Err(FilterFault(number));
-            }
+        if let Some(number) = path.name().and_then(|name| self.balked(&name)) {
+            return Err(FilterFault(number));
         }
         self.denied.check_dir(path)
     }
