@@ -6,4 +6,4 @@ use Rattle.state.proofs.inner.Inner.concerns_any.Goals as goal
 
 pub returns : goal.returns
 unfolding model concerns_any
-returns c = c.any.ensures (λ e. concerns c.args.path.now e.key) (always_returns_same _ _ _ (λ a r f k. search rules))
+returns c = rw (← c.self.view_is) (c.any.ensures (λ e. concerns c.args.path.now e.key) (always_returns_same _ _ _ (λ a r f k. search rules)))

@@ -7,4 +7,4 @@ use Rattle.state.proofs.inner.Inner.is_watched.Goals as goal
 
 pub returns : goal.returns
 unfolding model is_watched
-returns c = c.any.ensures (λ e. same_path e.value c.args.path.now) (always_returns_same _ _ _ (λ a r f k. search rules))
+returns c = rw (← c.self.view_is) (c.any.ensures (λ e. same_path e.value c.args.path.now) (always_returns_same _ _ _ (λ a r f k. search rules)))
