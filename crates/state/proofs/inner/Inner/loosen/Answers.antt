@@ -13,5 +13,6 @@ returns c =
     let gs = c.self.inside.guards in
     let p = c.args.path.now in
     rw (← c.self.view_is) (elim c.match-get_mut.branch [
-      in-Some w ↦ rw w.self-inside-is (ap (λ xs. with_guards xs (model c.self.inside)) (c.get_mut.follows.holds (detached w.in-Some.guard.now) ∙ lent_there order_path p detached gs w.in-Some.ensures.finds))
-    | in_default w ↦ rw w.self-inside-is (ap (λ xs. with_guards xs (model c.self.inside)) (c.get_mut.follows.holds-at-none ∙ lent_nowhere order_path p detached gs w.in_default.ensures.finds)) ])
+      | in-Some w ↦ rw w.self-inside-is (ap (λ xs. with_guards xs (model c.self.inside)) (c.get_mut.follows.holds (detached w.in-Some.guard.now) ∙ lent_there order_path p detached gs w.in-Some.ensures.finds))
+      | in_default w ↦ rw w.self-inside-is (ap (λ xs. with_guards xs (model c.self.inside)) (c.get_mut.follows.holds-at-none ∙ lent_nowhere order_path p detached gs w.in_default.ensures.finds))
+    ])
