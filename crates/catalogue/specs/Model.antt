@@ -24,7 +24,7 @@ way_of (Ok None) t = replaced (Some t)
 way_of (Err Lost) t = replaced None
 way_of (Err (Cause c)) t = stopped c
 
--- A kind that was come to, with the path that stands beside it and, of a link, no target.
+-- The kind of a node, without a link's target.
 abbrev pub kind_at : Node → Kind
 kind_at directory = Directory
 kind_at file = File

@@ -14,6 +14,7 @@ impl Catalogue {
         ensures { IfOk result (λ c. c ≡ bare) }
     {
         let mut nodes = Table::new(heap)?;
+        // The first of 64, so that this cannot fail.
         let _ = nodes.insert(Path::root(), Node::directory());
         Ok(Catalogue { nodes })
     }

@@ -9,7 +9,7 @@ ghost use Rattle.catalogue.specs.Arrivals.{no_link};
 
 use crate::node::Kind;
 use crate::tree::Catalogue;
-use outside::{EntryKind, ScanCause, Scanner};
+use outside::{EntryKind, ListedItem, ScanCause, Scanner};
 use paths::{Name, Path};
 
 // The name of a path that is a child of a directory.
@@ -51,7 +51,7 @@ impl Catalogue {
     }
 
     // The child of that number, from 0, of a directory.
-    fn child(&self, directory: &Path, number: usize) -> Option<Result<Name, ScanCause>>
+    fn child(&self, directory: &Path, number: usize) -> Option<ListedItem>
         ensures { result ≡ slice_get (map Ok (children directory.now self.now)) number }
     {
         self.nodes
@@ -84,11 +84,7 @@ impl Scanner for Catalogue {
         }
     }
 
-    fn item(
-        &self,
-        path: &Path,
-        number: usize,
-    ) -> Result<Option<Result<Name, ScanCause>>, ScanCause> {
+    fn item(&self, path: &Path, number: usize) -> Result<Option<ListedItem>, ScanCause> {
         let mut at = *path;
         match self.arrive(true, &mut at)? {
             Kind::Directory => Ok(self.child(&at, number)),

@@ -50,13 +50,13 @@ impl Rules {
     }
 
     fn forget(&mut self, name: &Name) {
-        self.balks.retain(|balk| balk.name.bytes() != name.bytes());
+        self.balks.retain(|balk| balk.name != *name);
     }
 
     fn balked(&self, name: &Name) -> Option<u16> {
         self.balks
             .iter()
-            .find(|balk| balk.name.bytes() == name.bytes())
+            .find(|balk| balk.name == *name)
             .map(|balk| balk.number)
     }
 

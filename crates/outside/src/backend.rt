@@ -15,7 +15,7 @@ pub trait Backend {
     // Between two states of a backend this request was made and that answer came. Only a call shows it.
     ghost did: { Self → Request → Answer → Self → Type 0 };
 
-    // A cause puts the path that it carries into the place that the caller lends.
+    // A cause puts the path that it carries into the place that the caller lends, since no enum holds a path.
     fn watch(&mut self, path: &Path, carried: &mut Carried) -> Result<(), BackendCause>
         ensures answer { did self.old (asks_watch path.now) (answered result carried.new) self.new }
         ensures none { is_ok result ≡ true → carried.new ≡ None };

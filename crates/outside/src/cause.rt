@@ -75,6 +75,7 @@ impl fmt::Display for FilterFault {
 
 impl Error for FilterFault {}
 
+// By hand: a derive of `From` has no clause on the variant.
 impl From<BackendCause> for Cause {
     ghost from_gives = { λ c r. r ≡ Backend c };
 

@@ -11,6 +11,6 @@ pub mod scanner;
 pub use backend::Backend;
 pub use carried::Carried;
 pub use cause::{BackendCause, Cause, FilterFault, ScanCause};
-pub use entry::EntryKind;
+pub use entry::{EntryKind, ListedItem};
 pub use filterer::Filterer;
 pub use scanner::Scanner;

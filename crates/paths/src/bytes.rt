@@ -29,7 +29,7 @@ pub(crate) fn copy(to: &mut [u8], from: &[u8])
     ensures { to.new ≡ from.now ++ drop (length from.now) to.old }
 {
     let n = from.len();
-    to[0..n].copy_from_slice(from);
+    to[..n].copy_from_slice(from);
 }
 
 fn key_of(b: u8) -> u8

@@ -4,6 +4,7 @@ ghost use Rattle.std.specs.Option.{option_map};
 ghost use Rattle.paths.specs.Texts.{parts_from, first_part, behind_part, other_parts, placed_parts};
 ghost use Rattle.std.specs.Iterator.{YieldsFirstBy, item_count};
 
+// Text and position, so that a part's place is one in the whole text.
 #[derive(Drop)]
 pub struct Cursor<'a> {
     text: &'a [u8],
@@ -25,7 +26,7 @@ impl<'a> Cursor<'a> {
         Cursor { text, at: 0 }
     }
 
-    // The next part, until all are given.
+    // The next part, until all are given. Its clauses say where the cursor then stands; `next_gives` does not.
     pub fn next_part(&mut self) -> Option<Part<'a>>
         ensures same { self.new.text.now ≡ self.old.text.now }
         ensures value { option_map (λ x. (x.name.now, x.place)) result ≡ first_part (parts_from self.old.text.now self.old.at) self.old.at }

@@ -10,7 +10,7 @@ pub enum Refusal {
 }
 
 impl Refusal {
-    // The number by which callers outside the library know it.
+    // The number that the rules give it and the program prints: `u8::from` would not say of what.
     pub fn number(self) -> u8
         ensures { result ≡ number_of self }
     {

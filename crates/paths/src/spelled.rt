@@ -1,5 +1,5 @@
-// Names spelled into N bytes, a slash before each, the outermost first. The bytes behind are zero, so that equal
-// names have equal bytes; no name has no byte. Memory is fixed, so the bytes lie in the value, with their length.
+// Names spelled into N bytes, a slash before each, the outermost first. The bytes behind are zero, so that
+// the names give the whole value back; "/" is no byte at all. Memory is fixed, so the bytes lie in the value, with their length.
 pub mod methods;
 
 use std::marker::Model;

@@ -30,7 +30,7 @@ pub fn is_blank(line: &[u8]) -> bool
     matches!(line, [] | [b'#', ..])
 }
 
-// Whether a word is that name.
+// Whether a word is that name: `==`, as a public promise of this crate.
 pub fn is_word(word: &[u8], name: &[u8]) -> bool
     ensures { result ≡ bytes_eq word.now name.now }
 {
@@ -49,7 +49,7 @@ impl<'a> Words<'a> {
         }
     }
 
-    // The same as `next`, under the name that callers know.
+    // `next` with clauses of its own, which state the word and the rest without the trait.
     pub fn next_word(&mut self) -> Option<Word<'a>>
         ensures value { option_map seen result ≡ head (yet self.old) }
         ensures after { yet self.new ≡ tail (yet self.old) }

@@ -2,7 +2,7 @@
 ghost use Rattle.std.specs.Prelude.{◌≡◌};
 ghost use Rattle.scenario.specs.Numbers.{numeral, joined};
 
-// The number that a word of digits writes, if it fits.
+// The number that a word of digits writes, if it fits. Not `parse`, which takes a leading plus.
 pub fn number(word: &[u8]) -> Option<u64>
     ensures { result ≡ numeral word.now }
 {

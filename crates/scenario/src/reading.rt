@@ -17,7 +17,7 @@ pub enum TextError {
 impl From<AllocError> for TextError {
     ghost from_gives = { λ _ r. r ≡ NoMemory };
 
-    fn from(_e: AllocError) -> TextError {
+    fn from(_: AllocError) -> TextError {
         TextError::NoMemory
     }
 }
@@ -30,7 +30,7 @@ pub fn decode(heap: Global, word: &[u8]) -> Result<Vec<u8>, TextError>
     match word {
         [] => Err(TextError::BadText),
         [b'%'] => Ok(Vec::new(heap)),
-        // Before any memory is asked for: a bad word is refused as bad where there is none too.
+        // Before any memory is asked for, so that a bad word is refused as bad even where there is none.
         _ if !is_text(word) => Err(TextError::BadText),
         _ => Ok(unescape(heap, word)?),
     }

@@ -6,8 +6,8 @@ ghost use Rattle.sheet.specs.Model.{rows};
 use crate::class::Class;
 use crate::prepared::Sheet;
 use crate::refusal::ClassRefusal;
-use outside::ScanCause;
-use paths::{Name, Path};
+use outside::{ListedItem, ScanCause};
+use paths::Path;
 use std::alloc::{AllocError, Global};
 use tables::{Entry, NoPlace, Queue, Table};
 
@@ -76,7 +76,7 @@ impl Sheet {
     }
 
     // One more item for a path, behind those that it has. It shows only in a listing that stands already.
-    pub fn add(&mut self, path: &Path, item: Result<Name, ScanCause>) -> Result<(), NoPlace>
+    pub fn add(&mut self, path: &Path, item: ListedItem) -> Result<(), NoPlace>
         ensures value { result ≡ (added path.now item (rows self.old)).0 }
         ensures after { rows self.new ≡ (added path.now item (rows self.old)).1 }
     {

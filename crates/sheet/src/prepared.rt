@@ -3,17 +3,18 @@ ghost use Rattle.std.specs.Prelude.{◌≡◌, true};
 ghost use Rattle.sheet.specs.Unlinked.{unlinked};
 
 use crate::class::Class;
-use outside::ScanCause;
-use paths::{Name, Path};
+use outside::{ListedItem, ScanCause};
+use paths::Path;
 use tables::{Entry, Queue, Table};
 
-// A row stands under the path that it is for. The items of all listings are in one queue, in the order given.
-// There is no `Model` with `Rows` as its `Value`: rows may have a followed link, and the scanner's law is of every `Value`.
+// A row stands under the path that it is for. Two tables, since only the one for following owes that no row is a link;
+// one queue with the items of all listings, in the order given: a list in each would need memory later.
+// No `Model` over `Rows`: the scanner's law is of every value, and `Rows` may have a followed link.
 #[derive(Drop)]
 pub struct Sheet {
     pub(crate) followed: Table<Path, Class, 512>,
     pub(crate) unfollowed: Table<Path, Class, 512>,
     pub(crate) listings: Table<Path, Result<(), ScanCause>, 256>,
-    pub(crate) items: Queue<Entry<Path, Result<Name, ScanCause>>, 2048>,
+    pub(crate) items: Queue<Entry<Path, ListedItem>, 2048>,
     ghost no_links: { unlinked followed ≡ true },
 }

@@ -9,8 +9,8 @@ ghost use Rattle.sheet.specs.Unlinked.{no_link};
 
 use crate::class::Class;
 use crate::prepared::Sheet;
-use outside::{EntryKind, ScanCause, Scanner};
-use paths::{Name, Path};
+use outside::{EntryKind, ListedItem, ScanCause, Scanner};
+use paths::Path;
 
 impl Sheet {
     // What a path is, by the row for it.
@@ -37,7 +37,7 @@ impl Sheet {
     }
 
     // The item of that number, from 0, for a path.
-    fn item_for(&self, path: &Path, number: usize) -> Option<Result<Name, ScanCause>>
+    fn item_for(&self, path: &Path, number: usize) -> Option<ListedItem>
         ensures { result ≡ slice_get (items_for path.now (rows self.now).items) number }
     {
         let rows = self.items.entries().iter().filter(|row| row.key == *path);
@@ -65,11 +65,7 @@ impl Scanner for Sheet {
         class.kind
     }
 
-    fn item(
-        &self,
-        path: &Path,
-        number: usize,
-    ) -> Result<Option<Result<Name, ScanCause>>, ScanCause> {
+    fn item(&self, path: &Path, number: usize) -> Result<Option<ListedItem>, ScanCause> {
         self.heading(path)?;
         Ok(self.item_for(path, number))
     }

@@ -6,7 +6,7 @@ pub mod error;
 pub mod making;
 pub mod watching;
 
-// A model, since what holds of every board is no part of what an answer says the next board is.
+// A model and no ghost fields, so that clauses can write the next board out as a record.
 #[derive(Drop)]
 pub struct Board {
     slots: usize,

@@ -9,6 +9,7 @@ use std::alloc::{AllocError, Global};
 use std::marker::Model;
 use tables::{NoPlace, Queue};
 
+// A queue and no set: the definition keeps the names in the order in which they were refused.
 #[derive(Drop)]
 pub struct NameFilter {
     names: Queue<Name, 16>,

@@ -1,5 +1,5 @@
 // A set of at most N paths, in their order, whose memory is had once.
-ghost use Rattle.std.specs.Prelude.{◌≡◌, [], length, IfOk};
+ghost use Rattle.std.specs.Prelude.{◌≡◌, ◌≤◌, [], length, IfOk};
 ghost use Rattle.simulated.specs.Paths.{holds, takes, entered, parted};
 
 use paths::Path;
@@ -32,7 +32,8 @@ impl<const N: usize> PathSet<N> {
     }
 
     pub fn len(&self) -> usize
-        ensures { result ≡ length self.now }
+        ensures value { result ≡ length self.now }
+        ensures within { result ≤ N }
     {
         self.table.len()
     }

@@ -50,14 +50,6 @@ module _ {X : Type 0} (p : X → Bool) where
       grind arith
 
 module _ {X : Type 0} (before : X → X → Bool) where
-  pub ascends_kept : (t : X → Bool) (xs : List X) → ascends before xs ≡ true → ascends before (filter t xs) ≡ true
-  ascends_kept t [] e = refl
-  ascends_kept t (x ∷ xs) e =
-      let b = cases_Bool (every (before x) xs) in let q = cases_Bool (t x) in
-      let i = ascends_kept t xs (grind arith) in
-      let k = every_kept (before x) t xs (grind arith) in
-      grind arith
-
   pub ascends_where : (bs : List Bool) (xs : List X) → ascends before xs ≡ true → ascends before (items_where_true bs xs) ≡ true
   ascends_where [] xs e = refl
   ascends_where (b ∷ bs) [] e = refl

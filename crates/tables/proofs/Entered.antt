@@ -9,16 +9,13 @@ use Rattle.tables.specs.declared.entry.Entry.{Entry}
 use Rattle.tables.specs.Entries.{under, before, revalued, ascending, entered}
 use Rattle.tables.specs.Room.{fitted}
 use Rattle.tables.specs.Lists.{any, every, placed, without}
-use Rattle.tables.proofs.Ascents.{ascends_kept, ascends_without, ascends_changed, ascends_placed}
+use Rattle.tables.proofs.Ascents.{ascends_without, ascends_changed, ascends_placed}
 use Rattle.std.specs.List.{items_where_true}
 use Rattle.std.proofs.lemmas.Cmp.{alike_right}
 use Rattle.tables.proofs.Ascents.{ascends_where}
 use Rattle.tables.proofs.Sought.{less_of, equal_of}
 
 module _ {K V : Type 0} (cmp : K → K → Ordering) (xs : List (Entry K V)) (up : ascending cmp xs ≡ true) where
-  pub ascending_kept : (t : Entry K V → Bool) → ascending cmp (filter t xs) ≡ true
-  ascending_kept t = ascends_kept (λ a b. is_lt (cmp a.key b.key)) t xs up
-
   pub ascending_where : (bs : List Bool) → ascending cmp (items_where_true bs xs) ≡ true
   ascending_where bs = ascends_where (λ a b. is_lt (cmp a.key b.key)) bs xs up
 

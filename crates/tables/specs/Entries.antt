@@ -26,10 +26,6 @@ module _ {K V : Type 0} (cmp : K → K → Ordering) (k : K) where
   abbrev pub revalued : (V → V) → List (Entry K V) → List (Entry K V)
   revalued f xs = changed under (λ e. record { key = e.key; value = f e.value }) xs
 
--- an entry seen through f at its key and g at its value
-abbrev pub viewed : {K V K' V' : Type 0} → (K → K') → (V → V') → Entry K V → Entry K' V'
-viewed f g e = record { key = f e.key; value = g e.value }
-
 -- each entry's key is before the keys of all that follow it
 abbrev pub ascending : {K V : Type 0} → (K → K → Ordering) → List (Entry K V) → Bool
 ascending cmp xs = ascends (λ a b. is_lt (cmp a.key b.key)) xs

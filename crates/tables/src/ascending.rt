@@ -1,4 +1,5 @@
 // A table of at most N entries, whose memory is had once, so that no later call can fail for want of it.
+// Not a BTreeMap, which asks for memory at each new key.
 use crate::entry::Entry;
 use std::marker::Model;
 

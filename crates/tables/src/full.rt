@@ -1,3 +1,3 @@
 // The answer of a bounded list that is full: nothing was taken in, and nothing changed.
-#[derive(Clone, Copy)]
+#[derive(Clone, Copy, Debug, PartialEq, Eq)]
 pub struct NoPlace;

@@ -1,4 +1,4 @@
-// Searches of a list by a test of the caller's.
+// Searches of a list by a test of the caller's, each proved here and not inside a method.
 ghost use Rattle.std.specs.Prelude.{◌≡◌, ◌≤◌, length, filter};
 ghost use Rattle.std.specs.Fn.{ComputesKey};
 ghost use Rattle.std.specs.Option.{option_map};

@@ -1,4 +1,5 @@
 // A queue of at most N entries, whose memory is had once, so that no later call can fail for want of it.
+// Not a VecDeque: `entries` lends all of them as one slice.
 use std::marker::Model;
 
 mod edits;

@@ -6,6 +6,7 @@ ghost use Rattle.paths.specs.Names.{same_name};
 
 use super::Name;
 
+// By hand: a derive would compare all 255 bytes, and clauses would see fields where they speak of names.
 impl PartialEq for Name {
     ghost eq = { same_name };
 

@@ -1,5 +1,5 @@
 // Making a name of bytes, and reading it.
-ghost use Rattle.std.specs.Prelude.{◌≡◌, ℕ, true};
+ghost use Rattle.std.specs.Prelude.{◌≡◌, ◌≤◌, ℕ, true, length};
 ghost use Rattle.paths.specs.Names.{dots, plain, named, name_of};
 
 use super::Name;
@@ -23,13 +23,7 @@ impl Name {
     pub fn new(bytes: &[u8]) -> Option<Name>
         ensures { result ≡ name_of bytes.now }
     {
-        if bytes.len() > 255 {
-            return None;
-        }
-        if !is_plain(bytes) {
-            return None;
-        }
-        if is_dots(bytes) {
+        if bytes.len() > 255 || !is_plain(bytes) || is_dots(bytes) {
             return None;
         }
         let mut own = [0; 255];
@@ -43,7 +37,8 @@ impl Name {
     pub fn bytes(&self) -> &[u8]
         ensures value { result.now ≡ self.now }
         ensures named { named result.now ≡ true }
+        ensures within { length result.now ≤ 255 }
     {
-        &self.bytes[0..self.len]
+        &self.bytes[..self.len]
     }
 }

@@ -9,6 +9,7 @@ use super::Path;
 use crate::bytes;
 use std::cmp::Ordering;
 
+// By hand: a derive would compare the fields, where clauses speak of the names.
 impl PartialEq for Path {
     ghost eq = { same_path };
 
@@ -33,7 +34,7 @@ impl PartialOrd for Path {
     }
 }
 
-// By names from "/" down, a beginning first.
+// By names from "/" down, a beginning first. No derive gives it: a slash comes before every byte.
 impl Ord for Path {
     ghost cmp = { order_path };
 

@@ -1,6 +1,6 @@
 // Going up and down from a path, its text, and how paths stand to each other.
-ghost use Rattle.std.specs.Prelude.{◌≡◌, ℕ, [], ◌∷◌, length};
-ghost use Rattle.paths.specs.Names.{up, last, text as text_of, starts_with};
+ghost use Rattle.std.specs.Prelude.{◌≡◌, ℕ, true, [], ◌∷◌, length};
+ghost use Rattle.paths.specs.Names.{good, up, last, text as text_of, starts_with, within};
 ghost use Rattle.paths.specs.Order.{order_path};
 ghost use Rattle.paths.specs.Texts.{limited};
 ghost use Rattle.paths.specs.Laws.{ReadsBack, PartialOrder, TotalOrder, AboveFirst};
@@ -31,12 +31,14 @@ impl Path {
     // The bytes that it is written with.
     pub fn text(&self) -> &[u8]
         ensures value { result.now ≡ text_of self.now }
+        ensures good { good self.now ≡ true }
+        ensures within { within self.now ≡ true }
         ensures laws { ReadsBack }
     {
         if self.depth() == 0 {
             return b"/";
         }
-        self.spelled.bytes() // as it is kept
+        self.spelled.bytes() // each name behind its slash
     }
 
     // Puts the child of that name into the place that the caller lends, since no result holds a path.
@@ -80,7 +82,7 @@ impl Path {
         rest.is_empty() || rest[0] == b'/'
     }
 
-    // By names from "/" down, a beginning first.
+    // `cmp`, with what it comes to: a total order, where a path comes no later than what lies below it.
     pub fn order(&self, other: &Path) -> Ordering
         ensures value { result ≡ order_path self.now other.now }
         ensures laws { TotalOrder order_path }

@@ -45,6 +45,7 @@ impl<const N: usize> Spelled<N> {
         ensures good { good self.now ≡ true }
         ensures within { length (render self.now) ≤ N }
     {
+        // As a slice first: an array of N bytes is not cut in one step.
         let text = &self.text[..];
         &text[..self.len]
     }

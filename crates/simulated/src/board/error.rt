@@ -14,7 +14,7 @@ pub enum BoardError {
 impl From<AllocError> for BoardError {
     ghost from_gives = { λ _ r. r ≡ NoMemory };
 
-    fn from(_error: AllocError) -> BoardError {
+    fn from(_: AllocError) -> BoardError {
         BoardError::NoMemory
     }
 }

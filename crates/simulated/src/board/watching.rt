@@ -20,6 +20,7 @@ impl Backend for Board {
         if !self.held.has_place(path, self.slots) {
             return Err(BackendCause::MaxFilesWatch);
         }
+        // There is a place, so that this cannot fail.
         let _ = self.held.insert(path);
         Ok(())
     }

@@ -1,4 +1,5 @@
-// A roll as a backend. A board answers of itself and a roll as prepared, so that only the test for a place is one method of both.
+// A roll as a backend. Not one generic backend with the board: they answer differently, and share only the test for
+// a place.
 ghost use Rattle.simulated.specs.Paths.{holds};
 ghost use Rattle.simulated.specs.Roll.{answer, after};
 ghost use Rattle.simulated.specs.Meanings.{Due, roll_did};
@@ -20,6 +21,7 @@ impl Backend for Roll {
             return Err(BackendCause::MaxFilesWatch);
         }
         self.next(carried)?;
+        // There is a place, so that this cannot fail.
         let _ = self.book.insert(path);
         Ok(())
     }

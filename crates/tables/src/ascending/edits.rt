@@ -28,6 +28,7 @@ impl<K: Ord + Copy, V: Copy, const N: usize> Table<K, V, N> {
                 if self.items.len() >= N {
                     return Err(NoPlace);
                 }
+                // There is room, so that this cannot fail.
                 let _ = self.items.insert(at, Entry { key, value });
             }
         }

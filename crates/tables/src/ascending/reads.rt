@@ -1,9 +1,9 @@
 // What a table answers of its entries.
-ghost use Rattle.std.specs.Prelude.{◌≡◌, true, length, filter, if◌then◌else◌, nat_lt, ◌==◌};
+ghost use Rattle.std.specs.Prelude.{◌≡◌, ◌≤◌, true, length, filter, if◌then◌else◌, nat_lt, ◌==◌};
 ghost use Rattle.std.specs.Fn.{ComputesKey};
 ghost use Rattle.std.specs.Option.{option_map};
 ghost use Rattle.std.specs.List.{slice_get as nth_of};
-ghost use Rattle.tables.specs.Entries.{held, sought, under};
+ghost use Rattle.tables.specs.Entries.{ascending, held, sought, under};
 ghost use Rattle.tables.specs.Lists.{any};
 
 use super::Table;
@@ -12,7 +12,8 @@ use crate::search;
 
 impl<K: Ord + Copy, V: Copy, const N: usize> Table<K, V, N> {
     pub fn len(&self) -> usize
-        ensures { result ≡ length self.now }
+        ensures value { result ≡ length self.now }
+        ensures within { result ≤ N }
     {
         self.items.len()
     }
@@ -24,7 +25,9 @@ impl<K: Ord + Copy, V: Copy, const N: usize> Table<K, V, N> {
     }
 
     pub fn entries(&self) -> &[Entry<K, V>]
-        ensures { result.now ≡ self.now }
+        ensures value { result.now ≡ self.now }
+        ensures within { length result.now ≤ N }
+        ensures ascends { ascending K.cmp result.now ≡ true }
     {
         &self.items
     }

@@ -1,6 +1,7 @@
 // What changes a queue's entries.
-ghost use Rattle.std.specs.Prelude.{◌≡◌, not, [], ◌∷◌, ◌++◌, IfOk, filter};
+ghost use Rattle.std.specs.Prelude.{◌≡◌, ◌≤◌, not, [], ◌∷◌, ◌++◌, length, IfOk, filter};
 ghost use Rattle.std.specs.Fn.{ComputesKey};
+ghost use Rattle.std.specs.List.{insert};
 ghost use Rattle.tables.specs.Lists.{head, placed, tail};
 ghost use Rattle.tables.specs.Room.{fitted};
 
@@ -17,26 +18,33 @@ impl<T: Copy, const N: usize> Queue<T, N> {
         Ok(Queue { items })
     }
 
-    pub fn push_back(&mut self, x: T) -> Result<(), NoPlace>
-        ensures value { result ≡ (fitted N self.old (self.old ++ x ∷ [])).0 }
-        ensures items { self.new ≡ (fitted N self.old (self.old ++ x ∷ [])).1 }
+    // Puts x at that place, if there is one more.
+    fn put_at(&mut self, at: usize, x: T) -> Result<(), NoPlace>
+        requires { at ≤ length self.old }
+        ensures value { result ≡ (fitted N self.old (insert self.old at x)).0 }
+        ensures items { self.new ≡ (fitted N self.old (insert self.old at x)).1 }
     {
         if self.items.len() >= N {
             return Err(NoPlace);
         }
-        self.items.push_reserved(x);
+        // There is room, so that this cannot fail.
+        let _ = self.items.insert(at, x);
         Ok(())
+    }
+
+    pub fn push_back(&mut self, x: T) -> Result<(), NoPlace>
+        ensures value { result ≡ (fitted N self.old (self.old ++ x ∷ [])).0 }
+        ensures items { self.new ≡ (fitted N self.old (self.old ++ x ∷ [])).1 }
+    {
+        let end = self.items.len();
+        self.put_at(end, x)
     }
 
     pub fn push_front(&mut self, x: T) -> Result<(), NoPlace>
         ensures value { result ≡ (fitted N self.old (x ∷ self.old)).0 }
         ensures items { self.new ≡ (fitted N self.old (x ∷ self.old)).1 }
     {
-        if self.items.len() >= N {
-            return Err(NoPlace);
-        }
-        let _ = self.items.insert(0, x);
-        Ok(())
+        self.put_at(0, x)
     }
 
     // Puts x behind the leading entries that come before it.
@@ -45,12 +53,8 @@ impl<T: Copy, const N: usize> Queue<T, N> {
         ensures value { (test : _) → ComputesKey F.Fn test is_before → result ≡ (fitted N self.old (placed (λ y. not (test y)) x self.old)).0 }
         ensures items { (test : _) → ComputesKey F.Fn test is_before → self.new ≡ (fitted N self.old (placed (λ y. not (test y)) x self.old)).1 }
     {
-        if self.items.len() >= N {
-            return Err(NoPlace);
-        }
         let at = search::leading(&self.items, is_before);
-        let _ = self.items.insert(at, x);
-        Ok(())
+        self.put_at(at, x)
     }
 
     pub fn pop_front(&mut self) -> Option<T>

@@ -1,5 +1,5 @@
 // What a queue answers of its entries.
-ghost use Rattle.std.specs.Prelude.{◌≡◌, length, ◌==◌};
+ghost use Rattle.std.specs.Prelude.{◌≡◌, ◌≤◌, length, ◌==◌};
 ghost use Rattle.std.specs.Option.{option_map};
 ghost use Rattle.std.specs.Fn.{ComputesKey};
 ghost use Rattle.tables.specs.Lists.{any, head};
@@ -9,7 +9,8 @@ use crate::search;
 
 impl<T: Copy, const N: usize> Queue<T, N> {
     pub fn len(&self) -> usize
-        ensures { result ≡ length self.now }
+        ensures value { result ≡ length self.now }
+        ensures within { result ≤ N }
     {
         self.items.len()
     }
@@ -21,7 +22,8 @@ impl<T: Copy, const N: usize> Queue<T, N> {
     }
 
     pub fn entries(&self) -> &[T]
-        ensures { result.now ≡ self.now }
+        ensures value { result.now ≡ self.now }
+        ensures within { length result.now ≤ N }
     {
         &self.items
     }

@@ -10,6 +10,6 @@ returns c =
     sym (option_map_id c.nth.result)
     ∙ nth_from_yields_List c.nth.result _ c.args.number c.nth.ensures.ran
     (YieldsList-from_map _ (λ e. e.value) (YieldsList-at c.map.ensures.source
-    (YieldsList-from_filter _ (λ e. same_path e.key c.args.path.now) (YieldsList-from_slice c.args.self.now.items (ap (λ i. i.rest.now) c.filter-rows.ensures.source ∙ (c.iter.ensures.rest ∙ c.entries.ensures)))
+    (YieldsList-from_filter _ (λ e. same_path e.key c.args.path.now) (YieldsList-from_slice c.args.self.now.items (ap (λ i. i.rest.now) c.filter-rows.ensures.source ∙ (c.iter.ensures.rest ∙ c.entries.ensures.value)))
     c.filter-rows.ensures.closure (λ x b q k. search rules)))
     c.map.ensures.closure (λ x r q k. search rules))

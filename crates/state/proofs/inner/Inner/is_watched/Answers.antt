@@ -1,10 +1,9 @@
 use Rattle.std.proofs.Common.{rules}
 use Rattle.std.proofs.lemmas.Fn.{always_returns_same}
-use Rattle.paths.specs.Names.{same_path}
 use Rattle.rules.specs.State.{is_watched}
 use Rattle.state.specs.Model.{model}
 use Rattle.state.proofs.inner.Inner.is_watched.Goals as goal
 
 pub returns : goal.returns
 unfolding model is_watched
-returns c = rw (← c.self.view_is) (c.any.ensures (λ e. same_path e.value c.args.path.now) (always_returns_same _ _ _ (λ a r f k. search rules)))
+returns c = rw (← c.self.view_is) (search (rules, always_returns_same) depth 9)
