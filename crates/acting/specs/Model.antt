@@ -1,15 +1,9 @@
--- What the progress of the code stands for, and what a method does by its definition.
+-- What a method does by its definition.
 use Rattle.std.specs.Prelude.{◌≡◌, Result}
 use Rattle.outside.specs.Requests.{Request, Answer}
 use Rattle.tables.specs.declared.full.NoPlace.{NoPlace}
 use Rattle.rules.specs.Runs.{end, Ran}
 use Rattle.rules.specs.Acts.{Act, Progress, outcome}
-use Rattle.state.specs.Model.{model}
-use Rattle.acting.specs.declared.progress.Progress.{Progress as ProgressValue}
-
--- The state, the faults and the mark.
-abbrev pub reached : ProgressValue → Progress
-reached p = record { state = model p.inner; faults = p.faults; rebuild = p.rebuild }
 
 -- From n the act makes no request and ends with this reply at m.
 abbrev pub Ends : {A : Type 0} → Act A → Progress → Result A NoPlace → Progress → Type 0

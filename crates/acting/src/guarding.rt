@@ -1,7 +1,7 @@
 // What a guard's installing and its root's recheck do without a request.
 ghost use Rattle.std.specs.Prelude.{◌≡◌};
 ghost use Rattle.rules.specs.Guarding.{root_appeared, retry_root_at, guard_not_watched, guard_failed, guard_must_rebuild, recheck_guarded_root, install_guard, join_guard};
-ghost use Rattle.acting.specs.Model.{reached, Ends};
+ghost use Rattle.acting.specs.Model.{Ends};
 
 use crate::progress::Progress;
 use looking::{RootRefusal, classify_explicit_root};
@@ -13,7 +13,7 @@ use tables::NoPlace;
 impl Progress {
     // The root is there after all: what was held against it goes, and its work comes first.
     fn root_appeared(&mut self, root: &Root) -> Result<(), NoPlace>
-        ensures { Ends (root_appeared root.now) (reached self.old) result (reached self.new) }
+        ensures { Ends (root_appeared root.now) self.old result self.new }
     {
         self.inner.lift_tombstones(&root.path);
         self.inner.drop_skipped(&root.path);
@@ -28,7 +28,7 @@ impl Progress {
         path: &Path,
         cause: ScanCause,
     ) -> Result<(), NoPlace>
-        ensures { Ends (retry_root_at root.now path.now cause) (reached self.old) result (reached self.new) }
+        ensures { Ends (retry_root_at root.now path.now cause) self.old result self.new }
     {
         self.report(Fault::scan(path, cause.into()))?;
         self.inner.put_retry_root(root)
@@ -40,7 +40,7 @@ impl Progress {
         scanner: &S,
         root: &Root,
     ) -> Result<(), NoPlace>
-        ensures { Ends (recheck_guarded_root (S.Scanner.classified scanner.now) root.now) (reached self.old) result (reached self.new) }
+        ensures { Ends (recheck_guarded_root (S.Scanner.classified scanner.now) root.now) self.old result self.new }
     {
         let follow = self.inner.follows();
         let mut place = root.path;
@@ -59,7 +59,7 @@ impl Progress {
         path: &Path,
         identity: &Identity,
     ) -> Result<(), NoPlace>
-        ensures { Ends (install_guard (S.Scanner.classified scanner.now) root.now path.now identity.now) (reached self.old) result (reached self.new) }
+        ensures { Ends (install_guard (S.Scanner.classified scanner.now) root.now path.now identity.now) self.old result self.new }
     {
         self.inner.put_guard(path, identity)?;
         self.inner.put_guarded(root, path)?;
@@ -75,7 +75,7 @@ impl Progress {
         path: &Path,
         identity: &Identity,
     ) -> Result<(), NoPlace>
-        ensures { Ends (join_guard (S.Scanner.classified scanner.now) root.now path.now identity.now) (reached self.old) result (reached self.new) }
+        ensures { Ends (join_guard (S.Scanner.classified scanner.now) root.now path.now identity.now) self.old result self.new }
     {
         if !self.inner.room_for_guard(path, root) {
             return Err(NoPlace);
@@ -85,7 +85,7 @@ impl Progress {
 
     // A guard path that is not there becomes a tombstone, and the guard is looked for once more.
     fn guard_failed(&mut self, root: &Root, path: &Path, how: AddResult) -> Result<(), NoPlace>
-        ensures { Ends (guard_failed root.now path.now how) (reached self.old) result (reached self.new) }
+        ensures { Ends (guard_failed root.now path.now how) self.old result self.new }
     {
         if how != AddResult::Invalidated {
             return Ok(());
@@ -96,7 +96,7 @@ impl Progress {
 
     // A guard's watch that was not done: the root is to be tried again.
     pub fn guard_not_watched(&mut self, root: &Root, failure: &Failure) -> Result<(), NoPlace>
-        ensures { Ends (guard_not_watched root.now failure.now.path failure.now.cause failure.now.carried) (reached self.old) result (reached self.new) }
+        ensures { Ends (guard_not_watched root.now failure.now.path failure.now.cause failure.now.carried) self.old result self.new }
     {
         self.inner.put_retry_root(root)?;
         let how = self.not_watched(failure)?;
@@ -105,7 +105,7 @@ impl Progress {
 
     // The root is to be tried again, and a rebuild is asked.
     pub fn guard_must_rebuild(&mut self, root: &Root) -> Result<(), NoPlace>
-        ensures { Ends (guard_must_rebuild root.now) (reached self.old) result (reached self.new) }
+        ensures { Ends (guard_must_rebuild root.now) self.old result self.new }
     {
         self.inner.put_retry_root(root)?;
         self.rebuild = true;

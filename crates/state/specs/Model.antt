@@ -1,11 +1,11 @@
--- What the inner struct stands for.
+-- The state that the inner struct stands for.
 use Rattle.std.specs.Prelude.{map}
 use Rattle.rules.specs.State.{State}
 use Rattle.rules.specs.Model.{work}
-use Rattle.state.specs.declared.inner.Inner.{Inner}
+use Rattle.state.specs.declared.inner.Inner.TheInside.{Inside}
 
 -- Its own fields, each work by its kind; what is gathered or about to be closed is no part of the state.
-unfoldable pub model : Inner → State
+unfoldable pub model : Inside → State
 model s = record {
   roots = s.roots;
   logical = s.logical;

@@ -2,7 +2,6 @@
 ghost use Rattle.std.specs.Prelude.{◌≡◌, false, [], IfOk};
 ghost use Rattle.rules.specs.declared.watcher_kind.WatcherKind.TheVariants.{Inotify};
 ghost use Rattle.rules.specs.Calls.{fresh};
-ghost use Rattle.state.specs.Model.{model};
 
 use crate::inner::Inner;
 use paths::Path;
@@ -13,7 +12,7 @@ use tables::{Queue, Table};
 impl Inner {
     // The only place where memory can be wanting.
     pub fn new(heap: Global) -> Result<Inner, AllocError>
-        ensures { IfOk result (λ s. model s ≡ fresh Inotify false []) }
+        ensures { IfOk result (λ s. s ≡ fresh Inotify false []) }
     {
         Ok(Inner {
             roots: Table::new(heap)?,
@@ -48,7 +47,7 @@ impl Inner {
 
     // Empty tables and marks at their beginning. Each table is cleared, not made anew: its memory is had once.
     pub fn reset(&mut self, kind: WatcherKind, follow: bool, cwd: &Path)
-        ensures { model self.new ≡ fresh kind follow cwd.now }
+        ensures { self.new ≡ fresh kind follow cwd.now }
     {
         self.roots.clear();
         self.logical.clear();

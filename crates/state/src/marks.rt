@@ -2,7 +2,6 @@
 ghost use Rattle.std.specs.Prelude.{◌≡◌};
 ghost use Rattle.rules.specs.Adding.{set_latch, set_reported};
 ghost use Rattle.rules.specs.State.{follows, kind_of, is_latched, is_reported, is_current};
-ghost use Rattle.state.specs.Model.{model};
 
 use crate::inner::Inner;
 use paths::Path;
@@ -10,50 +9,50 @@ use rules::WatcherKind;
 
 impl Inner {
     pub fn is_latched(&self) -> bool
-        ensures { result ≡ is_latched (model self.now) }
+        ensures { result ≡ is_latched self.now }
     {
         self.latched
     }
 
     pub fn is_reported(&self) -> bool
-        ensures { result ≡ is_reported (model self.now) }
+        ensures { result ≡ is_reported self.now }
     {
         self.reported
     }
 
     pub fn follows(&self) -> bool
-        ensures { result ≡ follows (model self.now) }
+        ensures { result ≡ follows self.now }
     {
         self.follow
     }
 
     pub fn kind(&self) -> WatcherKind
-        ensures { result ≡ kind_of (model self.now) }
+        ensures { result ≡ kind_of self.now }
     {
         self.kind
     }
 
     // The epoch is the current one.
     pub fn is_current(&self, epoch: u32) -> bool
-        ensures { result ≡ is_current (model self.now) epoch }
+        ensures { result ≡ is_current self.now epoch }
     {
         epoch == self.epoch
     }
 
     pub fn cwd(&self) -> &Path
-        ensures { result.now ≡ (model self.now).cwd }
+        ensures { result.now ≡ self.now.cwd }
     {
         &self.cwd
     }
 
     pub fn set_latch(&mut self)
-        ensures { model self.new ≡ set_latch (model self.old) }
+        ensures { self.new ≡ set_latch self.old }
     {
         self.latched = true;
     }
 
     pub fn set_reported(&mut self)
-        ensures { model self.new ≡ set_reported (model self.old) }
+        ensures { self.new ≡ set_reported self.old }
     {
         self.reported = true;
     }

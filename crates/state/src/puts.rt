@@ -2,7 +2,6 @@
 ghost use Rattle.std.specs.Prelude.{◌≡◌};
 ghost use Rattle.rules.specs.Edits.{edited, push_front, put_logical, put_owner, put_record, put_guard, put_guarded, put_skipped, put_tombstone, put_retry_root, count_failure, once_more as one_more_time};
 ghost use Rattle.rules.specs.Model.{work as work_of};
-ghost use Rattle.state.specs.Model.{model};
 
 use crate::inner::Inner;
 use paths::Path;
@@ -11,20 +10,20 @@ use tables::NoPlace;
 
 impl Inner {
     pub fn push_front(&mut self, work: Work) -> Result<(), NoPlace>
-        ensures { edited result (model self.new) ≡ push_front (work_of work) (model self.old) }
+        ensures { edited result self.new ≡ push_front (work_of work) self.old }
     {
         self.work.push_front(work)
     }
 
     pub fn put_logical(&mut self, path: &Path, identity: &Identity) -> Result<(), NoPlace>
-        ensures { edited result (model self.new) ≡ put_logical path.now identity.now (model self.old) }
+        ensures { edited result self.new ≡ put_logical path.now identity.now self.old }
     {
         self.logical.insert(*path, *identity)
     }
 
     // The root's mark on the path, with the current epoch: one that stands is lent and renewed in place.
     pub fn put_owner(&mut self, owner: &Owned) -> Result<(), NoPlace>
-        ensures { edited result (model self.new) ≡ put_owner owner.now.path owner.now.root (model self.old) }
+        ensures { edited result self.new ≡ put_owner owner.now.path owner.now.root self.old }
     {
         let epoch = self.epoch;
         if let Some(mark) = self.owners.get_mut(owner) {
@@ -35,13 +34,13 @@ impl Inner {
     }
 
     pub fn put_record(&mut self, identity: &Identity, path: &Path) -> Result<(), NoPlace>
-        ensures { edited result (model self.new) ≡ put_record identity.now path.now (model self.old) }
+        ensures { edited result self.new ≡ put_record identity.now path.now self.old }
     {
         self.records.insert(*identity, *path)
     }
 
     pub fn put_guard(&mut self, path: &Path, identity: &Identity) -> Result<(), NoPlace>
-        ensures { edited result (model self.new) ≡ put_guard path.now identity.now (model self.old) }
+        ensures { edited result self.new ≡ put_guard path.now identity.now self.old }
     {
         let guard = Guard {
             identity: *identity,
@@ -51,32 +50,32 @@ impl Inner {
     }
 
     pub fn put_guarded(&mut self, root: &Root, path: &Path) -> Result<(), NoPlace>
-        ensures { edited result (model self.new) ≡ put_guarded root.now path.now (model self.old) }
+        ensures { edited result self.new ≡ put_guarded root.now path.now self.old }
     {
         self.guarded.insert(*root, *path)
     }
 
     pub fn put_skipped(&mut self, path: &Path) -> Result<(), NoPlace>
-        ensures { edited result (model self.new) ≡ put_skipped path.now (model self.old) }
+        ensures { edited result self.new ≡ put_skipped path.now self.old }
     {
         self.skipped.insert(*path, ())
     }
 
     pub fn put_tombstone(&mut self, path: &Path) -> Result<(), NoPlace>
-        ensures { edited result (model self.new) ≡ put_tombstone path.now (model self.old) }
+        ensures { edited result self.new ≡ put_tombstone path.now self.old }
     {
         self.tombstones.insert(*path, ())
     }
 
     pub fn put_retry_root(&mut self, root: &Root) -> Result<(), NoPlace>
-        ensures { edited result (model self.new) ≡ put_retry_root root.now (model self.old) }
+        ensures { edited result self.new ≡ put_retry_root root.now self.old }
     {
         self.retry_roots.insert(*root, ())
     }
 
     // One failure more at the path; two tell all, so the count stops there.
     pub fn count_failure(&mut self, path: &Path) -> Result<(), NoPlace>
-        ensures { edited result (model self.new) ≡ count_failure path.now (model self.old) }
+        ensures { edited result self.new ≡ count_failure path.now self.old }
     {
         let count = self.failures_at(path);
         self.failures.insert(*path, once_more(count))

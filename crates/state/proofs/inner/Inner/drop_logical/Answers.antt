@@ -9,5 +9,5 @@ use Rattle.state.proofs.inner.Inner.drop_logical.Goals as goal
 pub returns : goal.returns
 unfolding model drop_logical
 returns c =
-    ap₂ (λ xs ys. with_logical xs (with_owners ys (model c.args.self.now))) c.forget.ensures
-    (c.retain.ensures (λ e. not (same_path e.key.path c.args.path.now)) (always_returns_same _ _ _ (λ a r f k. search rules)))
+    rw (← c.self.view_is) (ap₂ (λ xs ys. with_logical xs (with_owners ys (model c.self.inside))) c.forget.ensures
+    (c.retain.ensures (λ e. not (same_path e.key.path c.args.path.now)) (always_returns_same _ _ _ (λ a r f k. search rules))))

@@ -8,4 +8,4 @@ use Rattle.state.proofs.inner.Inner.lift_tombstones.Goals as goal
 
 pub returns : goal.returns
 unfolding model lift_tombstones
-returns c = ap (λ xs. with_tombstones xs (model c.args.self.now)) (c.retain.ensures (λ e. not (starts_with c.args.path.now e.key)) (always_returns_same _ _ _ (λ a r f k. search rules)))
+returns c = rw (← c.self.view_is) (ap (λ xs. with_tombstones xs (model c.self.inside)) (c.retain.ensures (λ e. not (starts_with c.args.path.now e.key)) (always_returns_same _ _ _ (λ a r f k. search rules))))

@@ -5,15 +5,14 @@ use Rattle.rules.specs.Setters.{with_guards}
 use Rattle.state.specs.Model.{model}
 use Rattle.state.proofs.Lent.{lent_there, lent_nowhere}
 use Rattle.state.proofs.inner.Inner.loosen.Goals as goal
+use Rattle.state.proofs.inner.Inner.loosen.Goals.{in-Some, in_default}
 
-pub returns-in-Some : goal.returns-in-Some
+pub returns : goal.returns
 unfolding model loosen
-returns-in-Some c =
-    ap (λ xs. with_guards xs (model c.args.self.now))
-    (c.get_mut.follows.holds (detached c.in-Some.guard.now) ∙ lent_there order_path c.args.path.now detached c.args.self.now.guards c.in-Some.ensures.finds)
-
-pub returns-in_default : goal.returns-in_default
-unfolding model loosen
-returns-in_default c =
-    ap (λ xs. with_guards xs (model c.args.self.now))
-    (c.get_mut.follows.holds-at-none ∙ lent_nowhere order_path c.args.path.now detached c.args.self.now.guards c.in_default.ensures.finds)
+returns c =
+    let gs = c.self.inside.guards in
+    let p = c.args.path.now in
+    rw (← c.self.view_is) (elim c.match-get_mut.branch [
+      | in-Some w ↦ rw w.self-inside-is (ap (λ xs. with_guards xs (model c.self.inside)) (c.get_mut.follows.holds (detached w.in-Some.guard.now) ∙ lent_there order_path p detached gs w.in-Some.ensures.finds))
+      | in_default w ↦ rw w.self-inside-is (ap (λ xs. with_guards xs (model c.self.inside)) (c.get_mut.follows.holds-at-none ∙ lent_nowhere order_path p detached gs w.in_default.ensures.finds))
+    ])

@@ -10,8 +10,8 @@ use Rattle.state.proofs.inner.Inner.put_owner.Goals as goal
 pub returns-in-Some : goal.returns-in-Some
 unfolding model put_owner
 returns-in-Some c =
-    let xs = c.args.self.now.owners in
+    let xs = c.self.inside.owners in
     let k = c.args.owner.now in
-    let n = c.args.self.now.epoch in
+    let n = c.self.inside.epoch in
     let t = sym (entered_there order_owned 128 k n xs (held_there order_owned k xs c.in-Some.ensures.finds)) in
-    ap₂ (λ r ys. edited r (with_owners ys (model c.args.self.now))) (ap (λ q. q.0) t) (c.get_mut.follows.holds n ∙ ap (λ q. q.1) t)
+    rw (← c.self.view_is) (ap₂ (λ r ys. edited r (with_owners ys (model c.self.inside))) (ap (λ q. q.0) t) (c.get_mut.follows.holds n ∙ ap (λ q. q.1) t))
