@@ -14,13 +14,16 @@ pub enum RootRefusal {
     Failed(ScanCause),
 }
 
+// How a root stands: what is there, or why it is no entry.
+pub type ExplicitRootState = Result<EntryKind, RootRefusal>;
+
 // A link is not safe; with following the scanner finds none.
 fn reached<S: Scanner>(
     scanner: &S,
     follow: bool,
     path: &Path,
     place: &mut Path,
-) -> Result<EntryKind, RootRefusal>
+) -> ExplicitRootState
     ensures { root_state result place.new ≡ reached path.now (S.Scanner.classified scanner.now path.now follow) }
 {
     match scanner.classify(path, follow, place) {
@@ -38,11 +41,7 @@ fn reached<S: Scanner>(
 
 // From "/" down; a path has at most 8 names, so the recursion is shallow.
 #[tactic(auto, unfolding(rules::specs::Looking::not_followed))]
-fn not_followed<S: Scanner>(
-    scanner: &S,
-    path: &Path,
-    place: &mut Path,
-) -> Result<EntryKind, RootRefusal>
+fn not_followed<S: Scanner>(scanner: &S, path: &Path, place: &mut Path) -> ExplicitRootState
     ensures { root_state result place.new ≡ not_followed (S.Scanner.classified scanner.now) path.now }
 {
     if path.depth() == 0 {
@@ -61,7 +60,7 @@ pub fn classify_explicit_root<S: Scanner>(
     follow: bool,
     path: &Path,
     place: &mut Path,
-) -> Result<EntryKind, RootRefusal>
+) -> ExplicitRootState
     ensures { root_state result place.new ≡ classify_explicit_root (S.Scanner.classified scanner.now) follow path.now }
 {
     if follow {

@@ -10,7 +10,7 @@ pub mod guard;
 pub mod permit;
 pub mod place;
 
-pub use explicit_root::{RootRefusal, classify_explicit_root};
+pub use explicit_root::{ExplicitRootState, RootRefusal, classify_explicit_root};
 pub use guard::guard_place;
 pub use permit::candidate_allowed;
 pub use place::Place;
