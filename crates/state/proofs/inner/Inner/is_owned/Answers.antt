@@ -6,4 +6,4 @@ use Rattle.state.proofs.inner.Inner.is_owned.Goals as goal
 
 pub returns : goal.returns
 unfolding model is_owned
-returns c = rw (← c.self.view_is) (search (rules, always_returns_same) depth 9)
+returns c = search (rules, always_returns_same) depth 9
