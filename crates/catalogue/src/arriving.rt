@@ -9,7 +9,7 @@ use outside::ScanCause;
 use paths::Path;
 
 impl Catalogue {
-    // Goes on from the path in the place, which then holds the path that was come to.
+    // Goes on from the path in the place, which then holds the path that was come to: no result holds one.
     pub(crate) fn arrive(&self, last: bool, place: &mut Path) -> Result<Kind, ScanCause>
         ensures value { result ≡ replied (arrive_at last self.now 8 place.old) }
         ensures after { place.new ≡ come_to (arrive_at last self.now 8 place.old) place.new }

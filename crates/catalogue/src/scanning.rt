@@ -24,7 +24,8 @@ fn child_name(path: &Path, directory: &Path) -> Option<Name>
     }
 }
 
-// What stands at a path that was come to; a link there is not followed further.
+// What stands at a path that was come to; a link there is not followed further. A directory's path goes into
+// the place, since no result holds one.
 fn entry(kind: Kind, at: &Path, canonical: &mut Path) -> EntryKind
     ensures value { result ≡ kind_of (entry_by kind at.now) }
     ensures after { canonical.new ≡ canonical_of (entry_by kind at.now) canonical.old }

@@ -9,7 +9,8 @@ use crate::tree::Catalogue;
 use outside::ScanCause;
 use paths::Path;
 
-// Why a way ends before its path: a path that breaks the limits, or a cause.
+// Why a way ends before its path: a path that breaks the limits, or a cause. The numbers of causes are the system's:
+// 40 for too many links, 20 for what is no directory.
 #[derive(Clone, Copy)]
 pub enum Stop {
     Lost,

@@ -9,6 +9,7 @@ pub fn number(word: &[u8]) -> Option<u64>
     if word.is_empty() {
         return None;
     }
+    // A `for`: tried as `try_fold`, and the proof did not close.
     let mut value = 0;
     for b in word {
         value = with_digit(value, *b)?;

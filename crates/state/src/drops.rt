@@ -6,6 +6,7 @@ use crate::inner::Inner;
 use paths::Path;
 use rules::{Identity, Owned, Root};
 
+// One line for each definition: a generic one over the tables would be `forget` itself.
 impl Inner {
     pub fn drop_failure(&mut self, path: &Path)
         ensures { self.new ≡ drop_failure path.now self.old }

@@ -8,6 +8,7 @@ use crate::inner::Inner;
 use paths::Path;
 use rules::{Guard, Identity, Owned, Phase, Root};
 
+// One line for each definition: a generic one over the tables would be `contains_key` or `get` itself.
 impl Inner {
     pub fn is_configured(&self, root: &Root) -> bool
         ensures { result ≡ is_configured self.now root.now }

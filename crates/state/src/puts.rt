@@ -1,6 +1,6 @@
 // What enters the tables and the queue of works, or finds no place.
 ghost use Rattle.std.specs.Prelude.{◌≡◌};
-ghost use Rattle.rules.specs.Edits.{edited, push_front, put_logical, put_owner, put_record, put_guard, put_guarded, put_skipped, put_tombstone, put_retry_root, count_failure, once_more as one_more_time};
+ghost use Rattle.rules.specs.Edits.{edited, push_front, put_logical, put_owner, put_record, put_guard, put_guarded, put_skipped, put_tombstone, put_retry_root, count_failure, once_more};
 ghost use Rattle.rules.specs.Model.{work as work_of};
 
 use crate::inner::Inner;
@@ -8,6 +8,7 @@ use paths::Path;
 use rules::{Guard, Identity, Owned, Root, Work};
 use tables::NoPlace;
 
+// One line for each definition: a generic one over the tables would be `insert` itself.
 impl Inner {
     pub fn push_front(&mut self, work: Work) -> Result<(), NoPlace>
         ensures { edited result self.new ≡ push_front (work_of work) self.old }
@@ -21,7 +22,8 @@ impl Inner {
         self.logical.insert(*path, *identity)
     }
 
-    // The root's mark on the path, with the current epoch: one that stands is lent and renewed in place.
+    // The root's mark on the path, with the current epoch: one that stands is lent and renewed in place, as the
+    // project asks.
     pub fn put_owner(&mut self, owner: &Owned) -> Result<(), NoPlace>
         ensures { edited result self.new ≡ put_owner owner.now.path owner.now.root self.old }
     {
@@ -83,7 +85,7 @@ impl Inner {
 }
 
 fn once_more(count: u8) -> u8
-    ensures { result ≡ one_more_time count }
+    ensures { result ≡ once_more count }
 {
     if count < 2 { count + 1 } else { 2 }
 }
