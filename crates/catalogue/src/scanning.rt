@@ -1,5 +1,5 @@
 // A catalogue as a scanner.
-ghost use Rattle.std.specs.Prelude.{◌≡◌, true, false, map, Ok};
+ghost use Rattle.std.specs.Prelude.{◌≡◌, true, false, map, Ok, is_some};
 ghost use Rattle.std.specs.List.{slice_get};
 ghost use Rattle.outside.specs.Model.{kind as kind_in, kind_of, canonical as canonical_after, canonical_of};
 ghost use Rattle.catalogue.specs.Nodes.{child_name, children};
@@ -22,6 +22,13 @@ fn child_name(path: &Path, directory: &Path) -> Option<Name>
     } else {
         None
     }
+}
+
+// Whether there is such a name.
+fn is_child(path: &Path, directory: &Path) -> bool
+    ensures { result ≡ is_some (child_name path.now directory.now) }
+{
+    path.depth() > 0 && path.parent() == *directory
 }
 
 // What stands at a path that was come to; a link there is not followed further. A directory's path goes into
@@ -55,12 +62,15 @@ impl Catalogue {
     fn child(&self, directory: &Path, number: usize) -> Option<ListedItem>
         ensures { result ≡ slice_get (map Ok (children directory.now self.now)) number }
     {
-        self.nodes
+        // The node is found before its name is made: a name is a buffer of 255 bytes.
+        let node = self
+            .nodes
             .entries()
             .iter()
-            .filter_map(|entry| child_name(&entry.key, directory))
-            .map(Ok)
-            .nth(number)
+            .filter(|entry| is_child(&entry.key, directory))
+            .nth(number)?;
+        let name = child_name(&node.key, directory)?;
+        Some(Ok(name))
     }
 }
 

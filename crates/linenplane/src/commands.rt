@@ -4,6 +4,7 @@ ghost use Rattle.linenplane.specs.Commands.{beside, command, KindByKind};
 ghost use Rattle.linenplane.specs.declared.wrong.Wrong.TheVariants.{Unknown};
 
 use crate::wrong::Wrong;
+use scenario::is_word;
 
 #[derive(Clone, Copy)]
 pub enum Command {
@@ -69,7 +70,10 @@ fn beside(table: &[(&[u8], Command)], word: &[u8]) -> Option<Command>
     ensures value { result ≡ beside word.now (map (λ r. (r.0.now, r.1)) table.now) }
     ensures kinds { KindByKind }
 {
-    table.iter().find(|row| word == row.0).map(|row| row.1)
+    table
+        .iter()
+        .find(|row| is_word(word, row.0))
+        .map(|row| row.1)
 }
 
 const COMMANDS: [(&[u8], Command); 34] = [

@@ -51,7 +51,10 @@ impl Rules {
     }
 
     fn forget(&mut self, name: &Name) {
-        self.balks.retain(|balk| balk.name != *name);
+        // A name stands once, so the rest need not be asked.
+        if let Some(at) = self.balks.iter().position(|balk| balk.name == *name) {
+            let _ = self.balks.remove(at);
+        }
     }
 
     fn balked(&self, name: &Name) -> Option<u16> {
@@ -62,7 +65,8 @@ impl Rules {
     }
 
     pub fn verdict(&self, path: &Path) -> Result<bool, FilterFault> {
-        if let Some(number) = path.name().and_then(|name| self.balked(&name)) {
+        // By reference: a name is a buffer of 255 bytes.
+        if let Some(number) = path.name().as_ref().and_then(|name| self.balked(name)) {
             return Err(FilterFault(number));
         }
         self.denied.check_dir(path)

@@ -1,19 +1,14 @@
 // Bytes of the input as they are; those that do not print come as a question mark.
-use std::fmt;
-use std::fmt::Write;
+use std::alloc::AllocError;
 
-#[derive(Clone, Copy)]
-pub struct Printable<'a>(pub &'a [u8]);
+// Not a Display: a formatter takes many times as long for each character.
+pub fn push_printable(out: &mut String, bytes: &[u8]) -> Result<(), AllocError> {
+    out.extend(bytes.iter().map(|b| shown(*b)))
+}
 
-impl fmt::Display for Printable<'_> {
-    fn fmt<W: fmt::Write>(&self, f: &mut fmt::Formatter<W>) -> fmt::Result {
-        for b in self.0 {
-            let shown = match *b {
-                b' '..=b'~' => char::from(*b),
-                _ => '?',
-            };
-            f.write_char(shown)?;
-        }
-        Ok(())
+fn shown(byte: u8) -> char {
+    match byte {
+        b' '..=b'~' => char::from(byte),
+        _ => '?',
     }
 }

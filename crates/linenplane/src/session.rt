@@ -1,10 +1,10 @@
 // One run of the program: scenarios, line by line.
 use crate::args::Args;
 use crate::commands::{Command, Question};
-use crate::printable::Printable;
+use crate::printable::push_printable;
 use crate::world::World;
 use crate::wrong::Wrong;
-use scenario::is_blank;
+use scenario::{is_blank, is_word};
 use std::alloc::{AllocError, Global};
 use std::fmt::Write;
 
@@ -32,17 +32,19 @@ impl Session {
         let mut args = Args::new(self.world.heap, line);
         if let Err(wrong) = self.command(line, &mut args, out) {
             self.passing = true;
-            writeln!(out, "error {number}: {wrong} {}", Printable(args.last))?;
+            write!(out, "error {number}: {wrong} ")?;
+            push_printable(out, args.last)?;
+            out.push('\n')?;
         }
         Ok(())
     }
 
     fn command(&mut self, line: &[u8], args: &mut Args<'_>, out: &mut String) -> Result<(), Wrong> {
-        let command = Command::try_from(args.word()?);
-        if self.passing && !matches!(command, Ok(Command::Scenario)) {
+        let word = args.word()?;
+        if self.passing && !is_word(word, b"scenario") {
             return Ok(());
         }
-        match command? {
+        match Command::try_from(word)? {
             Command::Scenario => self.scenario(args, out),
             Command::Backend(command) => self.world.backend_command(command, args),
             Command::Scanner(command) => self.world.scanner_command(command, args),
@@ -62,8 +64,10 @@ impl Session {
     ) -> Result<(), Wrong> {
         let mut told = String::new(self.world.heap);
         self.world.answer(question, args, &mut told)?;
-        write!(out, "> {}\n{told}", Printable(line))?;
-        Ok(())
+        out.push_str("> ")?;
+        push_printable(out, line)?;
+        out.push('\n')?;
+        Ok(out.push_str(&told)?)
     }
 
     // Everything is forgotten.
@@ -72,6 +76,8 @@ impl Session {
         args.end()?;
         self.world = World::new(self.world.heap)?;
         self.passing = false;
-        Ok(writeln!(out, "== {}", Printable(name))?)
+        out.push_str("== ")?;
+        push_printable(out, name)?;
+        Ok(out.push('\n')?)
     }
 }

@@ -1,5 +1,6 @@
 pub mod Lists
 pub mod Roots
+pub mod Lawful
 pub mod Keys
 pub mod Refusals
 pub mod Faults

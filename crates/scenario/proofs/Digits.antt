@@ -1,5 +1,5 @@
 -- The digits of a number, one after another.
-use Rattle.std.proofs.Common.{◌≡◌, ℕ, ◌+◌, ◌-◌, ◌*◌, ◌^◌, ◌≤◌, List, [], ◌∷◌, None, arith}
+use Rattle.std.proofs.Common.{◌≡◌, ℕ, ◌+◌, ◌-◌, ◌*◌, ◌^◌, ◌≤◌, List, [], ◌∷◌, Some, None, arith}
 use Rattle.std.proofs.lemmas.Bool.{cases_Bool}
 use Rattle.std.proofs.lemmas.Bool.Decides.{nat_tests}
 use Rattle.scenario.specs.Numbers.{decimal, joined, onward}
@@ -15,5 +15,10 @@ past n (b ∷ bs) h =
 pub onward_refused : (n b : ℕ) (bs : List ℕ) → None ≡ joined n b → onward n (b ∷ bs) ≡ None
 onward_refused n b bs e =
     let p = past (10 * n + (b - 48)) bs in
+    let t = cases_Bool (decimal b) in
+    grind (arith, nat_tests)
+
+pub onward_more : (n b m : ℕ) (bs : List ℕ) → Some m ≡ joined n b → onward n (b ∷ bs) ≡ onward m bs
+onward_more n b m bs e =
     let t = cases_Bool (decimal b) in
     grind (arith, nat_tests)

@@ -47,7 +47,12 @@ fn unescape(heap: Global, word: &[u8]) -> Result<Vec<u8>, AllocError>
     requires { is_some (read word.now) ≡ true }
     ensures { IfOk result (λ v. read word.now ≡ Some v.items) }
 {
-    Unescaped(word).flatten().collect(heap)
+    // All the room at once, since a text is no longer than its word.
+    let mut text = Vec::with_capacity(heap, word.len())?;
+    for byte in Unescaped(word) {
+        text.push_reserved(byte.unwrap());
+    }
+    Ok(text)
 }
 
 // The byte that each character of a word stands for, and none for one that cannot be read.
@@ -62,10 +67,12 @@ impl Iterator for Unescaped<'_> {
     ghost remaining = { item_count (λ s. chars s.0.now) };
 
     fn next(&mut self) -> Option<Option<u8>> {
-        let (byte, rest) = match self.0 {
-            [] => return None,
-            [b'%', high, low, rest @ ..] => (hex_byte(*high, *low), rest),
-            [b, rest @ ..] => (is_plain(*b).then_some(*b), rest),
+        let (first, rest) = self.0.split_first()?;
+        let (byte, rest) = match (*first, rest) {
+            (b'%', [high, low, rest @ ..]) => (hex_byte(*high, *low), rest),
+            // An arm of its own, so that no byte is compared with '%' twice.
+            (b'%', _) => (None, rest),
+            (b, _) => (is_plain(b).then_some(b), rest),
         };
         self.0 = rest;
         Some(byte)

@@ -37,11 +37,20 @@ impl Sheet {
     }
 
     // The item of that number, from 0, for a path.
+    // A `for` that counts: tried as `filter` with `nth`, and it takes half as long again.
     fn item_for(&self, path: &Path, number: usize) -> Option<ListedItem>
         ensures { result ≡ slice_get (items_for path.now (rows self.now).items) number }
     {
-        let rows = self.items.entries().iter().filter(|row| row.key == *path);
-        rows.map(|row| row.value).nth(number)
+        let mut left = number;
+        for row in self.items.entries() {
+            if row.key == *path {
+                if left == 0 {
+                    return Some(row.value);
+                }
+                left -= 1;
+            }
+        }
+        None
     }
 }
 

@@ -15,12 +15,11 @@ use Rattle.simulated.specs.Sets.{joined_on, parted_off, unheld_off}
 abbrev pub Due : {S : Type 0} → (S → Request → Answer) → (S → Request → S) → S → Request → Answer → S → Type 0
 Due answer_of state_of s q a t = (a ≡ answer_of s q) × (t ≡ state_of s q)
 
--- What the due answer and state do to the book holds of the answer and the state that came.
-came : {S : Type 0} (book : S → List Names) (answer_of : S → Request → Answer) (state_of : S → Request → S)
-    → ((s : S) (q : Request) → Means (λ p. holds p (book s)) q (answer_of s q) (λ p. holds p (book (state_of s q))))
-    → (s : S) (q : Request) (a : Answer) (t : S) → Due answer_of state_of s q a t → Means (λ p. holds p (book s)) q a (λ p. holds p (book t))
-came book answer_of state_of m s q a t d p =
-    ap (λ x. holds p (book x)) d.1 ∙ (m s q p ∙ sym (ap (λ x. book_after q x (λ y. holds y (book s)) p) d.0))
+-- What the due answer and the due state mean holds of the answer and the state that came.
+came : {S : Type 0} (book : S → List Names) (s t due : S) (q : Request) (a said : Answer) → (a ≡ said) × (t ≡ due)
+    → Means (λ p. holds p (book s)) q said (λ p. holds p (book due)) → Means (λ p. holds p (book s)) q a (λ p. holds p (book t))
+came book s t due q a said d m p =
+    ap (λ x. holds p (book x)) d.1 ∙ (m p ∙ sym (ap (λ x. book_after q x (λ y. holds y (book s)) p) d.0))
 
 board_means : (b : Board) (q : Request) → Means (λ p. holds p b.held) q (answer b q) (λ p. holds p (after b q).held)
 board_means b (watch w) p =
@@ -32,7 +31,7 @@ board_means b (unwatch w) p =
     elim (cases_Bool (holds w b.held)) [ inl e ↦ grind arith | inr e ↦ let u = unheld_off w p b.held e in grind arith ]
 
 pub board_did : (b : Board) (q : Request) (a : Answer) (c : Board) → Due answer after b q a c → Means (λ p. holds p b.held) q a (λ p. holds p c.held)
-board_did = came (λ b. b.held) answer after board_means
+board_did b q a c d = came (λ x. x.held) b c (after b q) q a (answer b q) d (board_means b q)
 
 -- the paths follow the meaning of any answer
 booked_means : (q : Request) (a : Answer) (xs : List Names) → Means (λ p. holds p xs) q a (λ p. holds p (booked q a xs))
@@ -53,4 +52,4 @@ roll_means r (watch w) p =
 roll_means r (unwatch w) p = booked_means (unwatch w) (next r.answers) r.book p
 
 pub roll_did : (r : Roll) (q : Request) (a : Answer) (t : Roll) → Due answer_on after_on r q a t → Means (λ p. holds p r.book) q a (λ p. holds p t.book)
-roll_did = came (λ r. r.book) answer_on after_on roll_means
+roll_did r q a t d = came (λ x. x.book) r t (after_on r q) q a (answer_on r q) d (roll_means r q)

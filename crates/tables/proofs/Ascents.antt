@@ -59,6 +59,14 @@ module _ {X : Type 0} (before : X → X → Bool) where
       let k = every_where (before x) bs xs (grind arith) in
       grind arith
 
+  pub ascends_kept : (t : X → Bool) (xs : List X) → ascends before xs ≡ true → ascends before (filter t xs) ≡ true
+  ascends_kept t [] e = refl
+  ascends_kept t (x ∷ xs) e =
+      let b = cases_Bool (every (before x) xs) in let q = cases_Bool (t x) in
+      let i = ascends_kept t xs (grind arith) in
+      let k = every_kept (before x) t xs (grind arith) in
+      grind arith
+
   pub ascends_without : (t : X → Bool) (xs : List X) → ascends before xs ≡ true → ascends before (without t xs) ≡ true
   ascends_without t [] e = refl
   ascends_without t (x ∷ xs) e =

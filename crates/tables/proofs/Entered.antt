@@ -1,6 +1,6 @@
 -- A table's entries after a change: what is entered, and that they ascend.
 use Rattle.std.proofs.Common.{◌≡◌, ℕ, ◌<◌, ◌≤◌, Bool, true, false, not, List, [], ◌∷◌, length, Ok, Err, filter, refl, ap, ◌∙◌, inl, inr, arith}
-use Rattle.std.proofs.lemmas.Bool.{cases_Bool, cond-true, cond-false, lt-ltb, le-ltb}
+use Rattle.std.proofs.lemmas.Bool.{cases_Bool, cases_lt, cond-true, cond-false, lt-ltb, le-ltb}
 use Rattle.std.specs.Cmp.{IsTotalOrder}
 use Rattle.std.specs.Ordering.{is_eq, is_lt, ordering_reverse}
 use Rattle.std.specs.declared.cmp.Ordering.{Ordering}
@@ -8,16 +8,20 @@ use Rattle.std.specs.declared.cmp.Ordering.TheVariants.{Less, Equal, Greater}
 use Rattle.tables.specs.declared.entry.Entry.{Entry}
 use Rattle.tables.specs.Entries.{under, before, revalued, ascending, entered}
 use Rattle.tables.specs.Room.{fitted}
-use Rattle.tables.specs.Lists.{any, every, placed, without}
-use Rattle.tables.proofs.Ascents.{ascends_without, ascends_changed, ascends_placed}
+use Rattle.tables.specs.Lists.{any, placed, without}
+use Rattle.tables.proofs.Ascents.{ascends_kept, ascends_without, ascends_changed, ascends_placed}
 use Rattle.std.specs.List.{items_where_true}
 use Rattle.std.proofs.lemmas.Cmp.{alike_right}
 use Rattle.tables.proofs.Ascents.{ascends_where}
+use Rattle.tables.proofs.Lookups.{gone as gone_where}
 use Rattle.tables.proofs.Sought.{less_of, equal_of}
 
 module _ {K V : Type 0} (cmp : K → K → Ordering) (xs : List (Entry K V)) (up : ascending cmp xs ≡ true) where
   pub ascending_where : (bs : List Bool) → ascending cmp (items_where_true bs xs) ≡ true
   ascending_where bs = ascends_where (λ a b. is_lt (cmp a.key b.key)) bs xs up
+
+  pub ascending_kept : (t : Entry K V → Bool) → ascending cmp (filter t xs) ≡ true
+  ascending_kept t = ascends_kept (λ a b. is_lt (cmp a.key b.key)) t xs up
 
   pub ascending_without : (t : Entry K V → Bool) → ascending cmp (without t xs) ≡ true
   ascending_without t = ascends_without (λ a b. is_lt (cmp a.key b.key)) t xs up
@@ -41,37 +45,40 @@ module _ {K V : Type 0} (cmp : K → K → Ordering) (n : ℕ) (k : K) (v : V) (
   pub entered_full : any (under cmp k) xs ≡ false → n ≤ length xs → entered cmp n k v xs ≡ (Err (record {}), xs)
   entered_full e l = cond-false _ _ _ e ∙ cond-false _ _ _ (le-ltb _ _ l)
 
+  ascending_put : ((a b : K) → is_eq (cmp a b) ≡ false → is_lt (cmp a b) ≡ false → is_lt (cmp b a) ≡ true) → ((a b c : K) → is_lt (cmp a b) ≡ true → is_lt (cmp b c) ≡ true → is_lt (cmp a c) ≡ true)
+      → any (under cmp k) xs ≡ false → ascending cmp xs ≡ true
+      → ascending cmp (placed (λ e. not (before cmp k e)) (record { key = k; value = v }) xs) ≡ true
+  ascending_put total trans e up =
+      ascends_placed (λ a b. is_lt (cmp a.key b.key)) (under cmp k) (record { key = k; value = v })
+      (λ a b c. trans a.key b.key c.key) (λ x. total x.key k) xs e up
+
   pub ascending_placed : IsTotalOrder cmp → any (under cmp k) xs ≡ false → ascending cmp xs ≡ true
       → ascending cmp (placed (λ e. not (before cmp k e)) (record { key = k; value = v }) xs) ≡ true
-  ascending_placed o e up =
-      ascends_placed (λ a b. is_lt (cmp a.key b.key)) (under cmp k) (record { key = k; value = v })
-      (λ a b c p q. ap is_lt (o.trans a.key b.key c.key (less_of _ p) (less_of _ q)))
-      (λ x p q. ap is_lt (o.antisymm k x.key) ∙ turned (cmp x.key k) p q)
-      xs e up
+  ascending_placed o =
+      ascending_put
+      (λ a b p q. ap is_lt (o.antisymm b a) ∙ turned (cmp a b) p q)
+      (λ a b c p q. ap is_lt (o.trans a b c (less_of _ p) (less_of _ q)))
+
+  pub ascending_entered : ((a b : K) → is_eq (cmp a b) ≡ false → is_lt (cmp a b) ≡ false → is_lt (cmp b a) ≡ true) → ((a b c : K) → is_lt (cmp a b) ≡ true → is_lt (cmp b c) ≡ true → is_lt (cmp a c) ≡ true)
+      → ascending cmp xs ≡ true → ascending cmp (entered cmp n k v xs).1 ≡ true
+  ascending_entered total trans up =
+      elim (cases_Bool (any (under cmp k) xs)) [
+        | inl e ↦ rw (entered_there e) (ascending_revalued cmp xs up k (λ _. v))
+        | inr e ↦
+            elim (cases_lt (length xs) n) [
+              | inl l ↦ rw (entered_new e l) (ascending_put total trans e up)
+              | inr l ↦ rw (entered_full e l) up
+            ]
+      ]
+
+module _ {K : Type 0} (cmp : K → K → Ordering) (o : IsTotalOrder cmp) where
+  -- of two that are tied with a third, none is before the other
+  apart : (a b c : K) → is_eq (cmp a c) ≡ true → is_eq (cmp b c) ≡ true → is_lt (cmp a b) ≡ false
+  apart a b c e f = ap is_lt (alike_right o b c a (equal_of (cmp b c) f) ∙ equal_of (cmp a c) e)
 
 module _ {K V : Type 0} (cmp : K → K → Ordering) (o : IsTotalOrder cmp) (k : K) where
-  -- no later key is tied with k, where x's is
-  none_after : (x : Entry K V) (xs : List (Entry K V)) → cmp x.key k ≡ Equal → every (λ y. is_lt (cmp x.key y.key)) xs ≡ true → any (under cmp k) xs ≡ false
-  none_after x [] t e = refl
-  none_after x (y ∷ ys) t e =
-      let l = cases_Bool (is_lt (cmp x.key y.key)) in
-      let i = none_after x ys t (grind arith) in
-      elim (cases_Bool (under cmp k y)) [
-        | inl u ↦
-            let a : cmp x.key y.key ≡ Equal = alike_right o y.key k x.key (equal_of (cmp y.key k) u) ∙ t in
-            absurd (let z : ◌≡◌ {A = ℕ} 0 1 = grind arith in omega arith)
-        | inr u ↦ grind arith
-      ]
-
   pub gone : (xs : List (Entry K V)) → ascending cmp xs ≡ true → any (under cmp k) (without (under cmp k) xs) ≡ false
-  gone [] a = refl
-  gone (x ∷ xs) a =
-      let b = cases_Bool (every (λ y. is_lt (cmp x.key y.key)) xs) in
-      let i = gone xs (grind arith) in
-      elim (cases_Bool (under cmp k x)) [
-        | inl u ↦ let n = none_after x xs (equal_of (cmp x.key k) u) (grind arith) in grind arith
-        | inr u ↦ grind arith
-      ]
+  gone = gone_where cmp k (apart cmp o)
 
 -- what is left where none passes is what fails
 pub kept_others : {X : Type 0} (t : X → Bool) (xs : List X) → any t xs ≡ false → filter (λ x. not (t x)) xs ≡ xs

@@ -118,7 +118,7 @@ pub record Missed {X : Type 0} (test : X → Bool) (xs : List X) : Type 0 where
   pub left : without test xs ≡ xs
   pub same : (f : X → X) → changed test f xs ≡ xs
 
-missing : {X : Type 0} (test : X → Bool) (xs : List X) → any test xs ≡ false → Missed test xs
+pub missing : {X : Type 0} (test : X → Bool) (xs : List X) → any test xs ≡ false → Missed test xs
 missing test [] e = record { none = refl; found = refl; left = refl; same = λ f. refl }
 missing test (x ∷ xs) e =
     let b = cases_Bool (test x) in

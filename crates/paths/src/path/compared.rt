@@ -6,7 +6,6 @@ ghost use Rattle.paths.specs.Order.{order_path};
 ghost use Rattle.paths.specs.Equal.{names_equiv, path_eq_laws, path_total, path_ties, path_partial};
 
 use super::Path;
-use crate::bytes;
 use std::cmp::Ordering;
 
 // By hand: a derive would compare the fields, where clauses speak of the names.
@@ -45,6 +44,6 @@ impl Ord for Path {
     ghost matches_eq = { path_ties };
 
     fn cmp(&self, other: &Path) -> Ordering {
-        bytes::order(self.spelled.bytes(), other.spelled.bytes())
+        self.order(other)
     }
 }

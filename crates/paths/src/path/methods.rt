@@ -7,6 +7,7 @@ ghost use Rattle.paths.specs.Laws.{ReadsBack, PartialOrder, TotalOrder, AboveFir
 ghost use Rattle.paths.specs.Model.{numbered, replied, placed};
 
 use super::Path;
+use crate::bytes;
 use crate::name::Name;
 use crate::refusal::Refusal;
 use crate::spelled::Spelled;
@@ -82,12 +83,12 @@ impl Path {
         rest.is_empty() || rest[0] == b'/'
     }
 
-    // `cmp`, with what it comes to: a total order, where a path comes no later than what lies below it.
+    // What `cmp` answers by, with what it comes to: a total order, where a path comes no later than what lies below it.
     pub fn order(&self, other: &Path) -> Ordering
         ensures value { result ≡ order_path self.now other.now }
         ensures laws { TotalOrder order_path }
         ensures first { AboveFirst }
     {
-        self.cmp(other)
+        bytes::order(self.spelled.bytes(), other.spelled.bytes())
     }
 }

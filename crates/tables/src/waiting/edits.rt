@@ -1,5 +1,5 @@
 // What changes a queue's entries.
-ghost use Rattle.std.specs.Prelude.{◌≡◌, ◌≤◌, not, [], ◌∷◌, ◌++◌, length, IfOk, filter};
+ghost use Rattle.std.specs.Prelude.{◌≡◌, ◌≤◌, not, [], ◌∷◌, ◌++◌, length, Err, IfOk, filter};
 ghost use Rattle.std.specs.Fn.{ComputesKey};
 ghost use Rattle.std.specs.List.{insert};
 ghost use Rattle.tables.specs.Lists.{head, placed, tail};
@@ -36,8 +36,12 @@ impl<T: Copy, const N: usize> Queue<T, N> {
         ensures value { result ≡ (fitted N self.old (self.old ++ x ∷ [])).0 }
         ensures items { self.new ≡ (fitted N self.old (self.old ++ x ∷ [])).1 }
     {
-        let end = self.items.len();
-        self.put_at(end, x)
+        // Not by `put_at`: an insertion behind the last takes several times as long.
+        if self.items.len() >= N {
+            return Err(NoPlace);
+        }
+        self.items.push_reserved(x);
+        Ok(())
     }
 
     pub fn push_front(&mut self, x: T) -> Result<(), NoPlace>
@@ -52,7 +56,12 @@ impl<T: Copy, const N: usize> Queue<T, N> {
         requires { F.IsAlwaysCallable is_before }
         ensures value { (test : _) → ComputesKey F.Fn test is_before → result ≡ (fitted N self.old (placed (λ y. not (test y)) x self.old)).0 }
         ensures items { (test : _) → ComputesKey F.Fn test is_before → self.new ≡ (fitted N self.old (placed (λ y. not (test y)) x self.old)).1 }
+        ensures full { N ≤ length self.old → (result ≡ Err (record {})) × (self.new ≡ self.old) }
     {
+        // A full queue is refused before any entry is asked.
+        if self.items.len() >= N {
+            return Err(NoPlace);
+        }
         let at = search::leading(&self.items, is_before);
         self.put_at(at, x)
     }
